@@ -1,0 +1,2 @@
+-- The one statement over the table of examples. Assumes nothing.
+pub mod Examples

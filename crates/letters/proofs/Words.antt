@@ -1,0 +1,43 @@
+-- Words and their bytes: there and back, and what is known of a name and of a prefix. All follows from the laws of letters.
+-- Assumes nothing.
+use Prim.Native.Nat.{ℕ, _≤_, _<_}
+use mathlib.Core.Path.{_≡_, refl, ap₂}
+use mathlib.Core.Bool.{true, and-eq-true-iff}
+use mathlib.Core.List.{List, [], _∷_}
+use borrow.Author.Tests.{ltb-true, leb-true, lt-ltb, le-leb}
+use lib.ListN.{length, length-map}
+use Rattle.letters.specs.Letters.{letters}
+use Rattle.letters.specs.Words.{Word, wordOf, bytesOf, Spelled}
+use Rattle.letters.specs.Names.{longest, spelled, isPrefix, isName}
+use Rattle.letters.proofs.Laws.{letter-byteOf}
+
+pub wordOf-bytesOf : (w : Word) → Spelled w → wordOf (bytesOf w) ≡ w
+wordOf-bytesOf [] s = refl
+wordOf-bytesOf (x ∷ w) s = ap₂ _∷_ (letter-byteOf x (s .0)) (wordOf-bytesOf w (s .1))
+
+pub spelled-word : (bytes : List ℕ) → spelled bytes ≡ true → Spelled (wordOf bytes)
+spelled-word [] e = tt
+spelled-word (b ∷ bytes) e =
+    let parts = and-eq-true-iff _ _ .0 e in
+    (ltb-true _ _ (parts .0), spelled-word bytes (parts .1))
+
+pub spelled-bytes : (w : Word) → Spelled w → spelled (bytesOf w) ≡ true
+spelled-bytes [] s = refl
+spelled-bytes (x ∷ w) s = simp (letter-byteOf x (s .0), lt-ltb x letters (s .0), spelled-bytes w (s .1))
+
+pub prefix-parts : (bytes : List ℕ) → isPrefix bytes ≡ true → (length bytes ≤ longest) × Spelled (wordOf bytes)
+unfolding isPrefix
+prefix-parts bytes e =
+    let parts = and-eq-true-iff _ _ .0 e in
+    (leb-true _ _ (parts .0), spelled-word bytes (parts .1))
+
+pub name-parts : (bytes : List ℕ) → isName bytes ≡ true → (0 < length bytes) × (length bytes ≤ longest) × Spelled (wordOf bytes)
+unfolding isName
+name-parts bytes e =
+    let parts = and-eq-true-iff _ _ .0 e in
+    let prefix = prefix-parts bytes (parts .1) in
+    (leb-true _ _ (parts .0), prefix .0, prefix .1)
+
+pub name-bytes : (w : Word) → 0 < length w → length w ≤ longest → Spelled w → isName (bytesOf w) ≡ true
+unfolding isName isPrefix
+name-bytes w some few s = simp (length-map, le-leb _ _ some, le-leb _ _ few, spelled-bytes w s)

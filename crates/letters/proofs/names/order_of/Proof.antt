@@ -1,0 +1,118 @@
+-- `order_of` meets its promise. The loop's invariant: both names have at least `i` letters, and their order is that of what follows
+-- these. Where one is over at `i`, that decides; where both have a letter there, the letters decide, or else what follows. The measure is
+-- what is left of `a`. Assumes nothing.
+use Prim.Native.Nat.{ℕ, _+_, _-_, _≤_, _<_, compare, Ordering, Ordering·lt, Ordering·eq, Ordering·gt}
+use mathlib.Core.Path.{_≡_, _∙_}
+use mathlib.Core.List.{List}
+use native.Mathlib.Nat.{le-antisymm}
+use native.Mathlib.Numerals.{add-one}
+use borrow.Author.Needs.{needs}
+use lib.ListN.{length, getD, drop, drop-of-length-le}
+use lib.Seq.{drop-cons}
+use Rattle.letters.specs.Letters.{letter}
+use Rattle.letters.specs.Words.{wordOf, then, order}
+use Rattle.letters.proofs.Compare.{compare-same, compare-lt, compare-gt}
+use Rattle.letters.proofs.names.order_of.Statement.{statement}
+use Rattle.letters.proofs.names.order_of.Tie as tie
+
+-- the order of what follows the first i letters
+abbrev orderFrom : List ℕ → List ℕ → ℕ → Ordering
+orderFrom a b i = order (wordOf (drop i a)) (wordOf (drop i b))
+
+module _ (a b : List ℕ) (i : ℕ) where
+  a-over : length a ≤ i → i < length b → orderFrom a b i ≡ Ordering·lt
+  unfolding order
+  a-over h k = rw (drop-of-length-le a h, drop-cons b i 0)
+
+  b-over : i < length a → length b ≤ i → orderFrom a b i ≡ Ordering·gt
+  unfolding order
+  b-over h k = rw (drop-cons a i 0, drop-of-length-le b k)
+
+  both-over : length a ≤ i → length b ≤ i → orderFrom a b i ≡ Ordering·eq
+  unfolding order
+  both-over h k = rw (drop-of-length-le a h, drop-of-length-le b k)
+
+  both-letters : (x y : ℕ) → i < length a → i < length b → x ≡ letter (getD a i 0) → y ≡ letter (getD b i 0)
+      → orderFrom a b i ≡ then (compare x y) (orderFrom a b (i + 1))
+  unfolding order
+  both-letters x y h k p q = rw (p, q, add-one, drop-cons a i 0, drop-cons b i 0)
+
+abbrev Inv-loop : tie.InvT-loop
+Inv-loop a b i₀ i = (i ≤ length b) × (orderFrom a b 0 ≡ orderFrom a b i)
+
+abbrev μ-loop : tie.MeasureT-loop
+μ-loop a b i₀ i = length a - i
+
+-- once both letters at `i` are read
+both-read : (c : tie.After-letter-of2 Inv-loop μ-loop) →
+    let at-loop = c .before .before .before .before .before .before in
+    let args = at-loop .before .before .before .args in
+    orderFrom (args .a .now) (args .b .now) 0
+    ≡ then (compare (c .before .before .letter-of .result) (c .letter-of2 .result))
+    (orderFrom (args .a .now) (args .b .now) (at-loop .loop .i + 1))
+both-read c =
+    let first = c .before .before in
+    let at-test = first .before .before .before in
+    at-test .before .loop .inv .1
+    ∙ both-letters _ _ _ _ _ (at-test .loop-test .taken) (first .before .before .if1 .left) (first .letter-of .ensures)
+    (c .letter-of2 .ensures)
+
+loop-holds : tie.Need-loop-holds Inv-loop μ-loop
+loop-holds c = search needs
+
+returns : tie.Need-returns Inv-loop μ-loop
+returns c = rw (c .before .before .loop .inv .1, b-over _ _ _ (c .before .loop-test .taken) (c .if1 .taken))
+
+shared-slice-read-letter-of : tie.Need-shared-slice-read-letter-of Inv-loop μ-loop
+shared-slice-read-letter-of c = search needs
+
+letter-of-requires : tie.Need-letter-of-requires Inv-loop μ-loop
+letter-of-requires c κs = search needs
+
+shared-slice-read-letter-of-2 : tie.Need-shared-slice-read-letter-of-2 Inv-loop μ-loop
+shared-slice-read-letter-of-2 c = search needs
+
+letter-of-requires-2 : tie.Need-letter-of-requires-2 Inv-loop μ-loop
+letter-of-requires-2 c κs = search needs
+
+returns-2 : tie.Need-returns-2 Inv-loop μ-loop
+returns-2 c = rw (both-read (c .before), compare-lt _ _ (c .if2 .taken))
+
+returns-3 : tie.Need-returns-3 Inv-loop μ-loop
+returns-3 c = rw (both-read (c .before .before), compare-gt _ _ (c .if3 .taken))
+
+add-i : tie.Need-add-i Inv-loop μ-loop
+add-i c = search needs
+
+loop-less : tie.Need-loop-less Inv-loop μ-loop
+loop-less c = search needs
+
+loop-again : tie.Need-loop-again Inv-loop μ-loop
+loop-again c =
+    (search needs, rw (both-read (c .before .before), le-antisymm (c .if3 .left) (c .before .if2 .left), compare-same))
+
+returns-4 : tie.Need-returns-4 Inv-loop μ-loop
+returns-4 c = rw (c .before .before .loop .inv .1, a-over _ _ _ (c .before .loop-test .left) (c .if4 .taken))
+
+returns-5 : tie.Need-returns-5 Inv-loop μ-loop
+returns-5 c = rw (c .before .before .loop .inv .1, both-over _ _ _ (c .before .loop-test .left) (c .if4 .left))
+
+pub order-of-spec : {M : Type 1} → statement M
+order-of-spec =
+    tie.close
+    (tie.spec
+    Inv-loop
+    μ-loop
+    loop-holds
+    returns
+    shared-slice-read-letter-of
+    letter-of-requires
+    shared-slice-read-letter-of-2
+    letter-of-requires-2
+    returns-2
+    returns-3
+    add-i
+    loop-less
+    loop-again
+    returns-4
+    returns-5)

@@ -1,0 +1,89 @@
+// Lists for load: is it one, and its names one by one.
+use super::names::is_before;
+use super::names::is_name;
+ghost use mathlib.Core.Path.{_≡_};
+ghost use mathlib.Core.Bool.{_&&_};
+ghost use Rattle.letters.specs.Each.{every};
+ghost use Rattle.letters.specs.Names.{isName};
+ghost use Rattle.letters.specs.Lists.{nameAt, nameEnd, linesOf, ended, rises, namesOf, isList};
+
+const LINE_END: u8 = 0x0A;
+
+// The most bytes of a list.
+const LONGEST_LIST: usize = 65535;
+
+// Where the name that starts at a place ends: at the first line end from there on, or where the
+// list ends.
+pub fn name_end(s: &[u8], at: usize) -> usize
+    ensures { λ r. ⌜ r ≡ nameEnd (now (s .entry)) at ⌝ }
+{
+    let mut i = at;
+    while i < s.len() {
+        if s[i] == LINE_END {
+            return i;
+        }
+        i += 1;
+    }
+    i
+}
+
+// The name that starts at a place, as a part of the list.
+pub fn name_at(s: &[u8], at: usize) -> &[u8]
+    ensures { λ r. ⌜ now r ≡ nameAt (now (s .entry)) at ⌝ }
+{
+    if s.len() < at {
+        return &s[0..0];
+    }
+    let end = name_end(s, at);
+    &s[at..end]
+}
+
+// Has every line its end, and is every line a name?
+fn all_names(s: &[u8]) -> bool
+    ensures { λ r. ⌜ r ≡ (ended (now (s .entry)) && every isName (linesOf (now (s .entry)))) ⌝ }
+{
+    let mut at = 0;
+    while at < s.len() {
+        let end = name_end(s, at);
+        if s.len() <= end {
+            return false;
+        }
+        if !is_name(&s[at..end]) {
+            return false;
+        }
+        at = end + 1;
+    }
+    true
+}
+
+// Does each line stand before the next?
+fn all_rising(s: &[u8]) -> bool
+    ensures { λ r. ⌜ r ≡ rises (namesOf (now (s .entry))) ⌝ }
+{
+    if s.len() == 0 {
+        return true;
+    }
+    let mut at = 0;
+    let mut next = name_end(s, 0) + 1;
+    while next < s.len() {
+        if !is_before(name_at(s, at), name_at(s, next)) {
+            return false;
+        }
+        at = next;
+        next = name_end(s, at) + 1;
+    }
+    true
+}
+
+// Is it a list for load?
+pub fn is_list(s: &[u8]) -> bool
+    ensures { λ r. ⌜ r ≡ isList (now (s .entry)) ⌝ }
+{
+    if LONGEST_LIST < s.len() {
+        return false;
+    }
+    if !all_names(s) {
+        return false;
+    }
+    all_rising(s)
+}

@@ -1,0 +1,44 @@
+-- The calls with their arguments: mission, operation and n are numbers; names, prefixes and lists are bytes. Assumes nothing.
+use Prim.Native.Nat.{ℕ}
+use mathlib.Core.Bool.{Bool}
+use mathlib.Core.List.{List, _++_}
+use lib.ListN.{length, drop}
+use Rattle.sets.specs.Sets.{Words}
+
+pub data Call : Type 0 where
+  empty : Call
+  check : Call
+  ask : ℕ → List ℕ → Call
+  next : ℕ → List ℕ → Call
+  add : ℕ → List ℕ → Call
+  remove : ℕ → List ℕ → Call
+  clear : ℕ → Call
+  load : ℕ → List ℕ → Call
+  -- the operation, and the missions a, b and c
+  combine : ℕ → ℕ → ℕ → ℕ → Call
+  count : ℕ → Call
+  rank : ℕ → List ℕ → Call
+  -- the mission, n, and the number of bytes of the answer buffer
+  nth : ℕ → ℕ → ℕ → Call
+  used : Call
+
+-- what a call finds
+pub record Book : Type 0 where
+  -- the slice has 40k numbers, with k from 27 to 1,026
+  pub lengthOk : Bool
+  pub sound : Bool
+  pub room : ℕ
+  pub lists : List Words
+
+-- "Each call answers a number and a value." next answers a second value, nth writes bytes to the front of its buffer, and some calls change
+-- the lists.
+pub record Outcome : Type 0 where
+  pub number : ℕ
+  pub value : ℕ
+  pub second : ℕ
+  pub written : List ℕ
+  pub lists : List Words
+
+-- an answer buffer with bytes written to its front: "later bytes stay"
+abbrev pub overlaid : List ℕ → List ℕ → List ℕ
+overlaid written buffer = written ++ drop (length written) buffer

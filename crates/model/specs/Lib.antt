@@ -1,0 +1,6 @@
+-- The thirteen calls on sixteen plain sets of names. Nothing here knows of rows. Assumes nothing.
+pub mod Lists
+pub mod Call
+pub mod Refusals
+pub mod Rules
+pub mod Run

@@ -1,0 +1,147 @@
+-- Each call: what refuses it, in rising order, and what it answers when done. Assumes nothing.
+use Prim.Native.Nat.{ℕ}
+use mathlib.Core.Bool.{Bool, not, cond, Bool·beq}
+use mathlib.Core.List.{List, [], _∷_}
+use lib.Dec.{eqb}
+use lib.ListN.{length}
+use Rattle.letters.specs.Letters.{letters}
+use Rattle.letters.specs.Words.{Word, wordOf, bytesOf}
+use Rattle.letters.specs.Lists.{namesOf}
+use Rattle.letters.specs.LetterSet.{flag, sumOf, countOf}
+use Rattle.sets.specs.Sets.{Words, member, insert, delete, both, common, without}
+use Rattle.sets.specs.Residuals.{need}
+use Rattle.model.specs.Lists.{listOf, replace, emptyLists, hasNames, rankOf, nthOf, mayFollow}
+use Rattle.model.specs.Call.{Book, Outcome}
+use Rattle.model.specs.Refusals.{Refusal, badLength, badMission, badOperation, noName, noPrefix, noList, shortBuffer, notSound, notEmpty, tooMany, notUnder, noRoom}
+
+-- a call's refusals, and its outcome when none applies
+pub record Rule : Type 0 where
+  pub refusals : List Refusal
+  pub done : Outcome
+
+-- a call that answers a value and leaves these lists
+abbrev pub leaves : List Words → ℕ → Outcome
+leaves after value = record { number = 0; value = value; second = 0; written = []; lists = after }
+
+-- a call that only answers a value
+abbrev pub answers : Book → ℕ → Outcome
+answers b value = leaves (b .lists) value
+
+-- "check and empty 0; empty sets every number to 0"
+abbrev pub emptyRule : Book → Rule
+emptyRule b = record { refusals = badLength b ∷ []; done = leaves emptyLists 0 }
+
+abbrev pub checkRule : Book → Rule
+checkRule b = record { refusals = badLength b ∷ notSound b ∷ []; done = answers b 0 }
+
+-- "ask: is a name on a mission's list?" "ask 1 or 0."
+abbrev pub askRule : Book → ℕ → List ℕ → Rule
+askRule b m name =
+    record {
+      refusals = badLength b ∷ badMission m ∷ noName name ∷ [];
+      done = answers b (flag (member (wordOf name) (listOf (b .lists) m)));
+    }
+
+-- "next answers the sum of 2 to the power x over the letters x that may follow. The number of letters that may follow is also answered."
+abbrev pub nextRule : Book → ℕ → List ℕ → Rule
+nextRule b m prefix =
+    record {
+      refusals = badLength b ∷ badMission m ∷ noPrefix prefix ∷ [];
+      done =
+          record {
+            number = 0;
+            value = sumOf letters (mayFollow (wordOf prefix) (listOf (b .lists) m));
+            second = countOf letters (mayFollow (wordOf prefix) (listOf (b .lists) m));
+            written = [];
+            lists = b .lists;
+          };
+    }
+
+-- "add and remove one name": the list with the name on it, or off it
+abbrev pub withName : Bool → Word → Words → Words
+withName on w l = cond on (insert w l) (delete w l)
+
+-- "add and remove 1 if the list changed, else 0"
+abbrev pub setRule : Bool → Book → ℕ → List ℕ → Rule
+setRule on b m name =
+    let l = listOf (b .lists) m in
+    let after = replace (b .lists) m (withName on (wordOf name) l) in
+    record {
+      refusals = badLength b ∷ badMission m ∷ noName name ∷ notSound b ∷ noRoom b after ∷ [];
+      done = leaves after (flag (not (Bool·beq (member (wordOf name) l) on)));
+    }
+
+-- "clear one list": "clear 1 if there were names, else 0"
+abbrev pub clearRule : Book → ℕ → Rule
+clearRule b m =
+    record {
+      refusals = badLength b ∷ badMission m ∷ notSound b ∷ [];
+      done = leaves (replace (b .lists) m []) (flag (hasNames (listOf (b .lists) m)));
+    }
+
+-- "load a rising list of names into an empty list": "load the number of names"
+abbrev pub loadRule : Book → ℕ → List ℕ → Rule
+loadRule b m bytes =
+    let after = replace (b .lists) m (namesOf bytes) in
+    record {
+      refusals = badLength b ∷ badMission m ∷ noList bytes ∷ notSound b ∷ notEmpty b m ∷ noRoom b after ∷ [];
+      done = leaves after (length (namesOf bytes));
+    }
+
+-- "1 both together, 2 common names, 3 names of a that b has not"
+abbrev pub combined : ℕ → Words → Words → Words
+combined op k l = cond (eqb op 1) (both k l) (cond (eqb op 2) (common k l) (without k l))
+
+-- "combine the lists of missions a and b into the empty list of mission c": "combine 1 if the result has a name, else 0"
+abbrev pub combineRule : Book → ℕ → ℕ → ℕ → ℕ → Rule
+combineRule book op a b c =
+    let result = combined op (listOf (book .lists) a) (listOf (book .lists) b) in
+    let after = replace (book .lists) c result in
+    record {
+      refusals =
+          badLength book
+          ∷ badMission a
+          ∷ badMission b
+          ∷ badMission c
+          ∷ badOperation op
+          ∷ notSound book
+          ∷ notEmpty book c
+          ∷ noRoom book after
+          ∷ [];
+      done = leaves after (flag (hasNames result));
+    }
+
+-- "count the names"
+abbrev pub countRule : Book → ℕ → Rule
+countRule b m =
+    record {
+      refusals = badLength b ∷ badMission m ∷ notSound b ∷ tooMany b m ∷ [];
+      done = answers b (length (listOf (b .lists) m));
+    }
+
+abbrev pub rankRule : Book → ℕ → List ℕ → Rule
+rankRule b m name =
+    record {
+      refusals = badLength b ∷ badMission m ∷ noName name ∷ notSound b ∷ tooMany b m ∷ [];
+      done = answers b (rankOf (wordOf name) (listOf (b .lists) m));
+    }
+
+-- "nth the length of the name, which stands at the front of the buffer; later bytes stay."
+abbrev pub nthRule : Book → ℕ → ℕ → ℕ → Rule
+nthRule b m n size =
+    let w = nthOf n (listOf (b .lists) m) in
+    record {
+      refusals = badLength b ∷ badMission m ∷ shortBuffer size ∷ notSound b ∷ tooMany b m ∷ notUnder b m n ∷ [];
+      done =
+          record {
+            number = 0;
+            value = length w;
+            second = 0;
+            written = bytesOf w;
+            lists = b .lists;
+          };
+    }
+
+-- "used: rows in use", which is the fewest states of the sixteen lists (demand 3)
+abbrev pub usedRule : Book → Rule
+usedRule b = record { refusals = badLength b ∷ notSound b ∷ []; done = answers b (need (b .lists)) }

@@ -1,0 +1,34 @@
+-- One call on a book: its outcome. Assumes nothing.
+use Prim.Native.Nat.{ℕ, zero, suc}
+use mathlib.Core.Bool.{true, false}
+use mathlib.Core.List.{[]}
+use Rattle.model.specs.Call.{Call, Book, Outcome}
+use Rattle.model.specs.Call.Call.{empty, check, ask, next, add, remove, clear, load, combine, count, rank, nth, used}
+use Rattle.model.specs.Refusals.{given}
+use Rattle.model.specs.Rules.{Rule, emptyRule, checkRule, askRule, nextRule, setRule, clearRule, loadRule, combineRule, countRule, rankRule, nthRule, usedRule}
+
+abbrev pub rule : Book → Call → Rule
+rule b empty = emptyRule b
+rule b check = checkRule b
+rule b (ask m name) = askRule b m name
+rule b (next m prefix) = nextRule b m prefix
+rule b (add m name) = setRule true b m name
+rule b (remove m name) = setRule false b m name
+rule b (clear m) = clearRule b m
+rule b (load m bytes) = loadRule b m bytes
+rule b (combine op x y z) = combineRule b op x y z
+rule b (count m) = countRule b m
+rule b (rank m name) = rankRule b m name
+rule b (nth m n size) = nthRule b m n size
+rule b used = usedRule b
+
+-- "A refusal has value 0 (next: both values 0) and changes no number of the table and no byte of an answer buffer."
+abbrev pub refused : ℕ → Book → Outcome
+refused number b = record { number = number; value = 0; second = 0; written = []; lists = b .lists }
+
+abbrev pub outcome : Book → ℕ → Outcome → Outcome
+outcome b zero done = done
+outcome b (suc n) done = refused (suc n) b
+
+unfoldable pub run : Book → Call → Outcome
+run b c = outcome b (given (rule b c .refusals)) (rule b c .done)

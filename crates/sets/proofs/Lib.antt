@@ -1,0 +1,12 @@
+-- The laws of plain sets, and the theorem that no automaton has fewer states than they need. Assumes nothing.
+pub mod Sets
+pub mod Residuals
+pub mod Cut
+pub mod Membership
+pub mod Pigeons
+pub mod Distinct
+pub mod States
+pub mod Automata
+pub mod Served
+pub mod Machine
+pub mod Fewest

@@ -1,0 +1,131 @@
+-- The sets in `states` are the least that hold every list that has a word and, with a set, what is left of it after a letter if that has a
+-- word. So what holds of the lists and goes over to what is left after a letter holds of all of them; and none is empty. The depth is
+-- enough, because what is left after a letter has shorter words.
+use Prim.Native.Nat.{ℕ, zero, suc, _<_}
+use native.Mathlib.Omega.{arith}
+use native.Mathlib.Decide.{ℕ-discrete}
+use mathlib.Core.Path.{refl}
+use mathlib.Core.Bool.{Bool, true, false, cond}
+use mathlib.Core.Logic.{inl, inr}
+use mathlib.Core.List.{List, [], _∷_}
+use lib.Dec.{eqb}
+use lib.ListN.{length, getD}
+use Rattle.letters.specs.Letters.{letters}
+use Rattle.sets.specs.Sets.{Words}
+use Rattle.sets.specs.Residuals.{after, over, residuals, height, allResiduals, states}
+use Rattle.sets.proofs.Membership.{In, here, there, nil-in, cons-in, append-in, in-left, in-right, Apart}
+use Rattle.sets.proofs.Distinct.{distinct-in, in-distinct, distinct-apart}
+
+-- the set has a word
+abbrev pub Filled : Words → Type 0
+Filled [] = ⊥
+Filled (w ∷ ws) = Unit {0}
+
+module _ (given : ℕ → List Words) {k : Words} where
+  over-in : (n : ℕ) → In k (over n given) → (x : ℕ) × (x < n) × In k (given x)
+  unfolding over
+  over-in zero i = absurd (nil-in i)
+  over-in (suc n) i =
+      elim (append-in (over n given) i) [ inl j ↦ let (x, h, g) = over-in n j in (x, omega arith, g) | inr g ↦ (n, omega arith, g) ]
+
+  in-over : (n x : ℕ) → x < n → In k (given x) → In k (over n given)
+  unfolding over
+  in-over zero x h i = absurd (omega arith)
+  in-over (suc n) x h i =
+      elim (ℕ-discrete x n) [ yes e ↦ in-right (over n given) (rw e at i) | no e ↦ in-left (given n) (in-over n x (omega arith) i) ]
+
+height-after : (x : ℕ) (l : Words) → Filled (after x l) → height (after x l) < height l
+unfolding after height
+height-after x [] f = absurd f
+height-after x ([] ∷ ws) f = omega (arith, height-after x ws f)
+height-after x ((y ∷ w) ∷ ws) f = go (λ g. height-after x ws g) (eqb x y) f
+  where
+    longer : (k : Words) → (Filled k → height k < height ws) → height (w ∷ k) < height ((y ∷ w) ∷ ws)
+    longer [] rest = omega arith
+    longer (v ∷ vs) rest = omega (arith, rest tt)
+
+    go : (Filled (after x ws) → height (after x ws) < height ws) → (t : Bool) → Filled (cond t (w ∷ after x ws) (after x ws))
+        → height (cond t (w ∷ after x ws) (after x ws)) < height ((y ∷ w) ∷ ws)
+    go rest true f = longer (after x ws) rest
+    go rest false f = omega (arith, rest f)
+
+-- the depth is enough for the set
+abbrev Deep : ℕ → Words → Type 0
+Deep d l = Filled l → height l < d
+
+in-residuals : (d : ℕ) (l : Words) → Deep d l → Filled l → In l (residuals d l)
+unfolding residuals
+in-residuals d [] deep f = absurd f
+in-residuals zero (w ∷ ws) deep f = absurd (omega (arith, deep tt))
+in-residuals (suc d) (w ∷ ws) deep f = here refl
+
+after-in-residuals : (d : ℕ) (l : Words) → Deep d l → (x : ℕ) → x < letters → {k : Words} → In k (residuals d l) → Filled (after x k)
+    → In (after x k) (residuals d l)
+unfolding residuals
+after-in-residuals zero l deep x h i f = absurd (nil-in i)
+after-in-residuals (suc d) [] deep x h i f = absurd (nil-in i)
+after-in-residuals (suc d) (w ∷ ws) deep x h i f =
+    let left : ℕ → Words = λ y. after y (w ∷ ws) in
+    let lower : (y : ℕ) → Deep d (left y) = λ y g. omega (arith, deep tt, height-after y (w ∷ ws) g) in
+    elim (cons-in i) [
+      | inl e ↦ rw e (there (in-over _ letters x h (in-residuals d (left x) (lower x) (rw e at f))))
+      | inr j ↦
+          let (y, below, g) = over-in _ letters j in
+          there (in-over _ letters y below (after-in-residuals d (left y) (lower y) x h g f))
+    ]
+
+-- all that is left of a list: the depth is enough
+abbrev parts : Words → List Words
+parts l = residuals (suc (height l)) l
+
+all-in : (ls : List Words) {k : Words} → In k (allResiduals ls) → (m : ℕ) × (m < length ls) × In k (parts (getD ls m []))
+unfolding allResiduals
+all-in [] i = absurd (nil-in i)
+all-in (l ∷ ls) i =
+    elim (append-in (parts l) i) [ inl j ↦ (0, omega arith, j) | inr j ↦ let (m, h, g) = all-in ls j in (suc m, omega arith, g) ]
+
+in-all : (ls : List Words) (m : ℕ) → m < length ls → {k : Words} → In k (parts (getD ls m [])) → In k (allResiduals ls)
+unfolding allResiduals
+in-all [] m h i = absurd (omega arith)
+in-all (l ∷ ls) zero h i = in-left (allResiduals ls) i
+in-all (l ∷ ls) (suc m) h i = in-right (parts l) (in-all ls m (omega arith) i)
+
+module _ (ls : List Words) where
+  states-in : {k : Words} → In k (states ls) → (m : ℕ) × (m < length ls) × In k (parts (getD ls m []))
+  unfolding states
+  states-in i = all-in ls (distinct-in (allResiduals ls) i)
+
+  in-states : (m : ℕ) → m < length ls → {k : Words} → In k (parts (getD ls m [])) → In k (states ls)
+  unfolding states
+  in-states m h i = in-distinct (in-all ls m h i)
+
+  pub states-apart : Apart (states ls)
+  unfolding states
+  states-apart = distinct-apart (allResiduals ls)
+
+  pub list-in-states : (m : ℕ) → m < length ls → Filled (getD ls m []) → In (getD ls m []) (states ls)
+  list-in-states m h f = in-states m h (in-residuals _ (getD ls m []) (λ _. omega arith) f)
+
+  pub after-in-states : {k : Words} → In k (states ls) → (x : ℕ) → x < letters → Filled (after x k) → In (after x k) (states ls)
+  after-in-states i x h f =
+      let (m, g, j) = states-in i in
+      in-states m g (after-in-residuals _ (getD ls m []) (λ _. omega arith) x h j f)
+
+module _ (P : Words → Type 0) (step : (x : ℕ) → x < letters → (k : Words) → P k → Filled (after x k) → P (after x k)) where
+  residuals-all : (d : ℕ) (l : Words) → (Filled l → P l) → {k : Words} → In k (residuals d l) → P k
+  unfolding residuals
+  residuals-all zero l p i = absurd (nil-in i)
+  residuals-all (suc d) [] p i = absurd (nil-in i)
+  residuals-all (suc d) (w ∷ ws) p i =
+      elim (cons-in i) [
+        | inl e ↦ rw e (p tt)
+        | inr j ↦ let (x, h, g) = over-in _ letters j in residuals-all d (after x (w ∷ ws)) (step x h (w ∷ ws) (p tt)) g
+      ]
+
+  -- induction over the states
+  pub states-all : (ls : List Words) → ((m : ℕ) → m < length ls → Filled (getD ls m []) → P (getD ls m [])) → {k : Words}
+      → In k (states ls) → P k
+  states-all ls p i = let (m, h, j) = states-in ls i in residuals-all _ (getD ls m []) (p m h) j
+
+pub states-filled : (ls : List Words) {k : Words} → In k (states ls) → Filled k
+states-filled ls i = states-all Filled (λ x h k p f. f) ls (λ m h f. f) i

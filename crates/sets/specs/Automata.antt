@@ -1,0 +1,77 @@
+-- The automata of source document 002 (Mihov), Definitions 1 to 4, with a start for each of several lists. Cyclic ones are among them.
+-- Assumes nothing.
+use Prim.Native.Nat.{ℕ, _≤_, _<_}
+use mathlib.Core.Path.{_≡_}
+use mathlib.Core.Bool.{Bool, true, false, _&&_, _||_}
+use mathlib.Core.List.{List, [], _∷_}
+use lib.Dec.{eqb}
+use lib.ListN.{length, getD}
+use Rattle.letters.specs.Words.{Word, Spelled}
+use Rattle.sets.specs.Sets.{Words, member}
+
+-- Definition 1: the states, the start of each list, the final states and the arcs. The function of arcs is partial: an arc, or a start, that
+-- names no state is none.
+pub record Automaton : Type 0 where
+  pub states : List ℕ
+  pub starts : List ℕ
+  pub final : ℕ → Bool
+  pub arc : ℕ → ℕ → ℕ
+
+-- is the number in the list?
+unfoldable pub listed : ℕ → List ℕ → Bool
+listed s [] = false
+listed s (r ∷ rs) = eqb s r || listed s rs
+
+-- no number twice
+abbrev pub Once : List ℕ → Type 0
+Once [] = Unit {0}
+Once (s ∷ ss) = (listed s ss ≡ false) × Once ss
+
+abbrev pub size : Automaton → ℕ
+size A = length (A .states)
+
+abbrev pub isState : Automaton → ℕ → Bool
+isState A s = listed s (A .states)
+
+-- "The function μ is extended naturally" to words: where a word leads from a state
+unfoldable pub end : Automaton → Word → ℕ → ℕ
+end A [] s = s
+end A (x ∷ w) s = end A w (A .arc s x)
+
+-- and whether it leads anywhere: every number on the way is a state
+unfoldable pub leads : Automaton → Word → ℕ → Bool
+leads A [] s = isState A s
+leads A (x ∷ w) s = isState A s && leads A w (A .arc s x)
+
+-- Definition 2: a word is in the language of a state if it leads to a final state
+abbrev pub accepts : Automaton → Word → ℕ → Bool
+accepts A w s = leads A w s && A .final (end A w s)
+
+-- the automaton has a start for each list, and the languages of its starts are the lists
+pub record Languages (A : Automaton) (ls : List Words) : Type 0 where
+  pub one-each : length (A .starts) ≡ length ls
+  pub language : (m : ℕ) → m < length ls → (w : Word) → Spelled w → accepts A w (getD (A .starts) m 0) ≡ member w (getD ls m [])
+
+-- Definition 2: "An automaton is called acyclic when" no word but the empty one leads from a state to itself
+abbrev pub acyclic : Automaton → Type 0
+acyclic A = (s x : ℕ) (w : Word) → Spelled (x ∷ w) → leads A (x ∷ w) s ≡ true → end A (x ∷ w) s ≡ s → ⊥
+
+-- Definition 3: a state is reachable from another when some word leads from that to this
+pub record reachable (A : Automaton) (t s : ℕ) : Type 0 where
+  pub word : Word
+  pub spelled : Spelled word
+  pub defined : leads A word t ≡ true
+  pub there : end A word t ≡ s
+
+-- Definition 3: "Two states are called equivalent when" they have the same language
+abbrev pub equivalent : Automaton → ℕ → ℕ → Type 0
+equivalent A s t = (w : Word) → Spelled w → accepts A w s ≡ accepts A w t
+
+-- Definition 4: n is the number of states of a minimal automaton with these languages. Some automaton with n states has them, and none has
+-- them with fewer.
+pub record Fewest (ls : List Words) (n : ℕ) : Type 0 where
+  pub some : Automaton
+  pub once : Once (some .states)
+  pub has : Languages some ls
+  pub counted : size some ≡ n
+  pub none-fewer : (A : Automaton) → Languages A ls → n ≤ size A
