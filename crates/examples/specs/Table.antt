@@ -1,9 +1,7 @@
 -- "Those marked P are the small proved set": P1 to P12 of 01, each with its sentence. `proofs/Examples.antt` proves that all of them hold.
 -- Assumes nothing.
 use Prim.Native.Nat.{ℕ}
-use Prim.Native.String.{String}
 use mathlib.Core.List.{List, [], _∷_}
-use Rattle.model.specs.Call.{Call}
 use Rattle.model.specs.Call.Call.{ask, next, add, remove, clear, load, combine, rank, nth, used}
 use Rattle.examples.specs.Text.{bytes, loadable}
 use Rattle.examples.specs.Script.{Script}

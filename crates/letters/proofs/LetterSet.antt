@@ -1,14 +1,14 @@
 -- What the number of ones and the trailing zeros of a set of letters mean. The sum is over falling letters, so a law about all letters goes by
 -- its last one; the trailing zeros go from the first letter on, so for them the sum is taken apart at letter 0. Assumes nothing.
 use Prim.Native.Nat.{ℕ, zero, suc, _+_, _*_, _/_, _%_, _^_, _≤_, _<_}
-use native.Mathlib.Nat.{pow-suc, one-mul, zero-mul, not-suc-le-zero}
+use native.Mathlib.Nat.{pow-suc, not-suc-le-zero}
 use native.Mathlib.Omega.{arith}
 use native.Mathlib.Decide.{ℕ-discrete}
-use mathlib.Core.Path.{_≡_, refl, sym, ap, _∙_}
-use mathlib.Core.Bool.{Bool, true, false, not, cond, _&&_}
+use mathlib.Core.Path.{_≡_, refl, sym, _∙_}
+use mathlib.Core.Bool.{Bool, true, false, not, _&&_}
 use lib.Dec.{eqb}
 use lib.Pow.{pow-pos}
-use lib.Count.{ones, onesIn, ones-cat, trailingZeros, under}
+use lib.Count.{ones, onesIn, ones-cat, trailingZeros}
 use borrow.Author.Tests.{eq-eqb, ne-eqb}
 use Rattle.letters.specs.LetterSet.{flag, sumOf, countOf}
 
@@ -18,21 +18,20 @@ unfolding sumOf
 sum-lt zero test = omega arith
 sum-lt (suc n) test = go (test n) (sum-lt n test)
   where
-    go : (b : Bool) → sumOf n test < 2 ^ n → cond b (2 ^ n) 0 + sumOf n test < 2 ^ suc n
+    go : (b : Bool) → sumOf n test < 2 ^ n → flag b * 2 ^ n + sumOf n test < 2 ^ suc n
     go true h = omega (arith, pow-suc 2 n)
     go false h = omega (arith, pow-suc 2 n)
+
+ones-flag : (b : Bool) → ones (flag b) ≡ flag b
+unfolding ones onesIn
+ones-flag true = refl
+ones-flag false = refl
 
 -- "count of ones gives the answer"
 pub ones-sum : (n : ℕ) (test : ℕ → Bool) → ones (sumOf n test) ≡ countOf n test
 unfolding sumOf countOf ones onesIn
 ones-sum zero test = refl
-ones-sum (suc n) test = go (test n) (ones-sum n test)
-  where
-    go : (b : Bool) → ones (sumOf n test) ≡ countOf n test → ones (cond b (2 ^ n) 0 + sumOf n test) ≡ flag b + countOf n test
-    go true e =
-        ap (λ (p : ℕ). ones (p + sumOf n test)) (sym (one-mul (2 ^ n))) ∙ ones-cat n 1 (sumOf n test) (sum-lt n test) ∙ ap (λ (c : ℕ). 1 + c) e
-    go false e =
-        ap (λ (p : ℕ). ones (p + sumOf n test)) (sym (zero-mul (2 ^ n))) ∙ ones-cat n 0 (sumOf n test) (sum-lt n test) ∙ ap (λ (c : ℕ). 0 + c) e
+ones-sum (suc n) test = ones-cat n (flag (test n)) (sumOf n test) (sum-lt n test) ∙ rw (ones-flag, ones-sum n test)
 
 -- tests that agree below n have the same set
 pub sum-agree : (n : ℕ) (f g : ℕ → Bool) → ((y : ℕ) → y < n → f y ≡ g y) → sumOf n f ≡ sumOf n g
@@ -61,29 +60,25 @@ sum-none n test e y h = go (test y) refl
 abbrev pub except : ℕ → (ℕ → Bool) → ℕ → Bool
 except x test y = not (eqb y x) && test y
 
+sum-below : (n : ℕ) (test : ℕ → Bool) → sumOf n (except n test) ≡ sumOf n test
+sum-below n test = sum-agree n (except n test) test (λ y h. rw (ne-eqb y n (omega arith)))
+
 pub sum-except : (n : ℕ) (test : ℕ → Bool) (x : ℕ) → x < n → test x ≡ true → sumOf n test ≡ 2 ^ x + sumOf n (except x test)
 unfolding sumOf
 sum-except zero test x h t = absurd (not-suc-le-zero h)
 sum-except (suc n) test x h t = elim (ℕ-discrete x n) [
-  | yes e ↦
-      let tn : test n ≡ true = rw e at t in
-      let rest : sumOf n (except n test) ≡ sumOf n test =
-      sum-agree n (except n test) test (λ y below. rw (ne-eqb y n (omega arith)))
-      in
-      rw (e, tn, eq-eqb n n refl, rest) (omega arith)
-  | no d ↦
-      let rest = sum-except n test x (omega arith) t in
-      rw (ne-eqb n x (λ q. d (sym q))) (omega arith)
+  | yes e ↦ let last : test n ≡ true = rw e at t in rw (e, last, eq-eqb n n refl, sum-below n test) (omega arith)
+  | no d ↦ let rest = sum-except n test x (omega arith) t in rw (ne-eqb n x (λ q. d (sym q))) (omega arith)
 ]
 
 -- the sum, taken apart at letter 0
 sum-low : (n : ℕ) (test : ℕ → Bool) → sumOf (suc n) test ≡ flag (test 0) + sumOf n (λ y. test (suc y)) * 2
 unfolding sumOf
-sum-low zero test = refl
+sum-low zero test = omega arith
 sum-low (suc n) test = go (test (suc n)) (sum-low n test)
   where
     go : (b : Bool) → sumOf (suc n) test ≡ flag (test 0) + sumOf n (λ y. test (suc y)) * 2
-        → cond b (2 ^ suc n) 0 + sumOf (suc n) test ≡ flag (test 0) + (cond b (2 ^ n) 0 + sumOf n (λ y. test (suc y))) * 2
+        → flag b * 2 ^ suc n + sumOf (suc n) test ≡ flag (test 0) + (flag b * 2 ^ n + sumOf n (λ y. test (suc y))) * 2
     go true e = omega (arith, pow-suc 2 n)
     go false e = omega arith
 

@@ -1,5 +1,4 @@
--- "A list for load is bytes: each name followed by 0x0A, names strictly rising, at most 65,535 bytes. No bytes is the empty list."
--- Assumes nothing.
+-- Lists for load: their lines, and the names that these are. Assumes nothing.
 use Prim.Native.Nat.{ℕ, _+_}
 use mathlib.Core.Bool.{Bool, true, cond, _&&_}
 use mathlib.Core.List.{List, [], _∷_, map}
@@ -10,7 +9,7 @@ use Rattle.letters.specs.Letters.{lineEnd}
 use Rattle.letters.specs.Words.{Word, wordOf, before}
 use Rattle.letters.specs.Names.{isName}
 
--- the most bytes of a list
+-- "at most 65,535 bytes"
 abbrev pub longestList : ℕ
 longestList = 65535
 
@@ -36,13 +35,13 @@ unfoldable pub linesOf : List ℕ → List (List ℕ)
 linesOf [] = []
 linesOf (b ∷ bytes) = cond (eqb b lineEnd) ([] ∷ linesOf bytes) (onFirst b (linesOf bytes))
 
--- the last line has its end too
+-- "each name followed by 0x0A": the last one too
 unfoldable pub ended : List ℕ → Bool
 ended [] = true
 ended (b ∷ []) = eqb b lineEnd
 ended (b ∷ c ∷ bytes) = ended (c ∷ bytes)
 
--- each word stands before the next
+-- "names strictly rising": each word stands before the next
 unfoldable pub rises : List Word → Bool
 rises [] = true
 rises (u ∷ []) = true
@@ -52,5 +51,6 @@ rises (u ∷ v ∷ words) = before u v && rises (v ∷ words)
 abbrev pub namesOf : List ℕ → List Word
 namesOf bytes = map wordOf (linesOf bytes)
 
+-- "A list for load is bytes: each name followed by 0x0A, names strictly rising, at most 65,535 bytes. No bytes is the empty list."
 unfoldable pub isList : List ℕ → Bool
 isList bytes = leb (length bytes) longestList && (ended bytes && (every isName (linesOf bytes) && rises (namesOf bytes)))

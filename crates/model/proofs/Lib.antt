@@ -1,2 +1,3 @@
--- The laws of replacing one of the sixteen lists. Assumes nothing.
+-- The laws of replacing one of the sixteen lists, and the lowest refusal. Assumes nothing.
 pub mod Lists
+pub mod Refusals

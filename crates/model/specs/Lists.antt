@@ -1,7 +1,7 @@
 -- "A book holds sixteen lists of names for missions 0 to 15." Assumes nothing.
 use Prim.Native.Nat.{ℕ, suc}
-use mathlib.Core.Bool.{Bool, true, false, not}
-use mathlib.Core.List.{List, [], _∷_, _++_}
+use mathlib.Core.Bool.{Bool, true, false}
+use mathlib.Core.List.{List, [], _∷_}
 use lib.ListN.{length, getD, set, replicate}
 use Rattle.letters.specs.Words.{Word, before}
 use Rattle.sets.specs.Sets.{Words, keep}
@@ -21,9 +21,11 @@ listOf ls m = getD ls m []
 abbrev pub replace : List Words → ℕ → Words → List Words
 replace ls m l = set ls m l
 
+-- sixteen empty lists
 abbrev pub emptyLists : List Words
 emptyLists = replicate missions []
 
+-- is there a name on the list?
 abbrev pub hasNames : Words → Bool
 hasNames [] = false
 hasNames (w ∷ l) = true

@@ -27,10 +27,11 @@ leaves after value = record { number = 0; value = value; second = 0; written = [
 abbrev pub answers : Book → ℕ → Outcome
 answers b value = leaves (b .lists) value
 
--- "check and empty 0; empty sets every number to 0"
+-- "empty: make an empty book of the slice." "check and empty 0; empty sets every number to 0"
 abbrev pub emptyRule : Book → Rule
 emptyRule b = record { refusals = badLength b ∷ []; done = leaves emptyLists 0 }
 
+-- "check: is it sound?"
 abbrev pub checkRule : Book → Rule
 checkRule b = record { refusals = badLength b ∷ notSound b ∷ []; done = answers b 0 }
 
@@ -45,13 +46,14 @@ askRule b m name =
 -- "next answers the sum of 2 to the power x over the letters x that may follow. The number of letters that may follow is also answered."
 abbrev pub nextRule : Book → ℕ → List ℕ → Rule
 nextRule b m prefix =
+    let follows = mayFollow (wordOf prefix) (listOf (b .lists) m) in
     record {
       refusals = badLength b ∷ badMission m ∷ noPrefix prefix ∷ [];
       done =
           record {
             number = 0;
-            value = sumOf letters (mayFollow (wordOf prefix) (listOf (b .lists) m));
-            second = countOf letters (mayFollow (wordOf prefix) (listOf (b .lists) m));
+            value = sumOf letters follows;
+            second = countOf letters follows;
             written = [];
             lists = b .lists;
           };
@@ -61,7 +63,7 @@ nextRule b m prefix =
 abbrev pub withName : Bool → Word → Words → Words
 withName on w l = cond on (insert w l) (delete w l)
 
--- "add and remove 1 if the list changed, else 0"
+-- "add and remove 1 if the list changed, else 0": it changes if the name is not yet as wanted
 abbrev pub setRule : Bool → Book → ℕ → List ℕ → Rule
 setRule on b m name =
     let l = listOf (b .lists) m in
@@ -119,6 +121,7 @@ countRule b m =
       done = answers b (length (listOf (b .lists) m));
     }
 
+-- "rank: how many names of the list stand before a given name"
 abbrev pub rankRule : Book → ℕ → List ℕ → Rule
 rankRule b m name =
     record {

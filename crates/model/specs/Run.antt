@@ -7,6 +7,7 @@ use Rattle.model.specs.Call.Call.{empty, check, ask, next, add, remove, 
 use Rattle.model.specs.Refusals.{given}
 use Rattle.model.specs.Rules.{Rule, emptyRule, checkRule, askRule, nextRule, setRule, clearRule, loadRule, combineRule, countRule, rankRule, nthRule, usedRule}
 
+-- the rule of each call
 abbrev pub rule : Book → Call → Rule
 rule b empty = emptyRule b
 rule b check = checkRule b
@@ -26,9 +27,11 @@ rule b used = usedRule b
 abbrev pub refused : ℕ → Book → Outcome
 refused number b = record { number = number; value = 0; second = 0; written = []; lists = b .lists }
 
+-- 0, "done": the call's own outcome; any other number refuses it
 abbrev pub outcome : Book → ℕ → Outcome → Outcome
 outcome b zero done = done
 outcome b (suc n) done = refused (suc n) b
 
+-- "Each call answers a number and a value": what a call on a book comes to
 unfoldable pub run : Book → Call → Outcome
 run b c = outcome b (given (rule b c .refusals)) (rule b c .done)

@@ -1,7 +1,7 @@
 -- Plain sets of words: strictly rising lists. Assumes nothing.
-use Prim.Native.Nat.{ℕ, Ordering, Ordering·lt, Ordering·eq, Ordering·gt}
+use Prim.Native.Nat.{Ordering, Ordering·lt, Ordering·eq, Ordering·gt}
 use mathlib.Core.Path.{_≡_}
-use mathlib.Core.Bool.{Bool, true, false, not, cond, _&&_, _||_}
+use mathlib.Core.Bool.{Bool, true, false, not, cond, _||_}
 use mathlib.Core.List.{List, [], _∷_}
 use Rattle.letters.specs.Each.{Each}
 use Rattle.letters.specs.Words.{Word, Spelled, order, before, same}
