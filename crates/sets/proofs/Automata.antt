@@ -1,5 +1,5 @@
 -- The first step of a word in an automaton: nothing is accepted from what is no state, and from a state a word is accepted if its rest is
--- accepted where the arc leads.
+-- accepted where the arc leads. Assumes nothing.
 use Prim.Native.Nat.{ℕ}
 use mathlib.Core.Path.{_≡_}
 use mathlib.Core.Bool.{true, false}

@@ -1,5 +1,6 @@
 -- `distinct` has every set, and each once; and `placeIn` finds a set where it stands, or goes past the end. `alike` decides: what it holds
 -- for alike is equal, so a set that is thrown out stands further ahead, and the set at the head is not among those kept behind it.
+-- Assumes nothing.
 use Prim.Native.Nat.{suc, _≤_, _<_}
 use native.Mathlib.Omega.{arith}
 use mathlib.Core.Path.{_≡_, refl, ap, sym}

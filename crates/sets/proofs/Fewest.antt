@@ -1,5 +1,5 @@
 -- The lists need as many states as there are different sets left of them: the machine of `Machine.antt` has that many, and by `Served.antt`
--- no automaton with these languages, cyclic or not, has fewer.
+-- no automaton with these languages, cyclic or not, has fewer. Assumes nothing.
 use mathlib.Core.List.{List}
 use lib.ListN.{length}
 use Rattle.letters.specs.Each.{Each}

@@ -1,6 +1,6 @@
 -- An automaton with these languages that has a state for each set in `states`: a state is a set's place, its arc leads to the place of what
 -- is left after the letter, and it is final where the set has the empty word. The place of the empty set is past the end, so it is no
--- state. By recursion on the word, the place of a set accepts the words of the set.
+-- state. By recursion on the word, the place of a set accepts the words of the set. Assumes nothing.
 use Prim.Native.Nat.{ℕ, zero, suc, _≤_, _<_}
 use native.Mathlib.Omega.{arith}
 use mathlib.Core.Path.{_≡_, refl, ap, _∙_}

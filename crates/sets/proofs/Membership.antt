@@ -1,5 +1,5 @@
 -- Membership in a list as a proposition, under short names: `here` and `there` say where the thing stands. What `keep` keeps is what was
--- there and passes the test, so it is apart if the list was. In the names, `in-X` leads into X and `X-in` out of it.
+-- there and passes the test, so it is apart if the list was. In the names, `in-X` leads into X and `X-in` out of it. Assumes nothing.
 use Prim.Native.Nat.{ℕ}
 use mathlib.Core.Path.{_≡_, refl}
 use mathlib.Core.Bool.{Bool, true, false, cond, _||_, false≢true}

@@ -1,5 +1,6 @@
 -- Pigeonholes. Where each of several things, no two of them the same, has a place in a list, and no two things have the same place, the
 -- things are at most as many as the places. The first thing's place is taken out of the list; the other things have theirs in what is left.
+-- Assumes nothing.
 use Prim.Native.Nat.{suc, _≤_}
 use native.Mathlib.Omega.{arith}
 use mathlib.Core.Path.{_≡_, refl, ap, sym, _∙_}

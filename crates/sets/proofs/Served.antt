@@ -1,7 +1,7 @@
 -- No automaton with these languages has fewer states. A number serves a plain set where, taken as a state, it accepts the words of the set
 -- and no others. What serves a set that has a word is a state, and then its arc serves what is left after the arc's letter; so every set in
 -- `states` is served by a state. No number serves two plain sets, and the sets are all different: the states are at least as many as the
--- sets. Nothing is asked about cycles.
+-- sets. Nothing is asked about cycles. Assumes nothing.
 use Prim.Native.Nat.{ℕ, zero, suc, _≤_, _<_}
 use mathlib.Core.Path.{_≡_, refl, sym, _∙_}
 use mathlib.Core.Bool.{Bool, true, false}

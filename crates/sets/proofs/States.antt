@@ -1,6 +1,6 @@
 -- The sets in `states` are the least that hold every list that has a word and, with a set, what is left of it after a letter if that has a
 -- word. So what holds of the lists and goes over to what is left after a letter holds of all of them; and none is empty. The depth is
--- enough, because what is left after a letter has shorter words.
+-- enough, because what is left after a letter has shorter words. Assumes nothing.
 use Prim.Native.Nat.{ℕ, zero, suc, _<_}
 use native.Mathlib.Omega.{arith}
 use native.Mathlib.Decide.{ℕ-discrete}
