@@ -34,6 +34,17 @@ module _ (given : ℕ → List Words) {k : Words} where
   in-over (suc n) x h i =
       elim (ℕ-discrete x n) [ yes e ↦ in-right (over n given) (rw e at i) | no e ↦ in-left (given n) (in-over n x (omega arith) i) ]
 
+module _ (P : Words → Type 0) (step : (x : ℕ) → x < letters → (k : Words) → P k → Filled (after x k) → P (after x k)) where
+  residuals-all : (d : ℕ) (l : Words) → (Filled l → P l) → {k : Words} → In k (residuals d l) → P k
+  unfolding residuals
+  residuals-all zero l p i = absurd (nil-in i)
+  residuals-all (suc d) [] p i = absurd (nil-in i)
+  residuals-all (suc d) (w ∷ ws) p i =
+      elim (cons-in i) [
+        | inl e ↦ rw e (p tt)
+        | inr j ↦ let (x, h, g) = over-in _ letters j in residuals-all d (after x (w ∷ ws)) (step x h (w ∷ ws) (p tt)) g
+      ]
+
 height-after : (x : ℕ) (l : Words) → Filled (after x l) → height (after x l) < height l
 unfolding after height
 height-after x [] f = absurd f
@@ -91,13 +102,13 @@ in-all (l ∷ ls) zero h i = in-left (allResiduals ls) i
 in-all (l ∷ ls) (suc m) h i = in-right (parts l) (in-all ls m (omega arith) i)
 
 module _ (ls : List Words) where
-  states-in : {k : Words} → In k (states ls) → (m : ℕ) × (m < length ls) × In k (parts (getD ls m []))
-  unfolding states
-  states-in i = all-in ls (distinct-in (allResiduals ls) i)
-
   in-states : (m : ℕ) → m < length ls → {k : Words} → In k (parts (getD ls m [])) → In k (states ls)
   unfolding states
   in-states m h i = in-distinct (in-all ls m h i)
+
+  states-in : {k : Words} → In k (states ls) → (m : ℕ) × (m < length ls) × In k (parts (getD ls m []))
+  unfolding states
+  states-in i = all-in ls (distinct-in (allResiduals ls) i)
 
   pub states-apart : Apart (states ls)
   unfolding states
@@ -112,20 +123,10 @@ module _ (ls : List Words) where
       in-states m g (after-in-residuals _ (getD ls m []) (λ _. omega arith) x h j f)
 
 module _ (P : Words → Type 0) (step : (x : ℕ) → x < letters → (k : Words) → P k → Filled (after x k) → P (after x k)) where
-  residuals-all : (d : ℕ) (l : Words) → (Filled l → P l) → {k : Words} → In k (residuals d l) → P k
-  unfolding residuals
-  residuals-all zero l p i = absurd (nil-in i)
-  residuals-all (suc d) [] p i = absurd (nil-in i)
-  residuals-all (suc d) (w ∷ ws) p i =
-      elim (cons-in i) [
-        | inl e ↦ rw e (p tt)
-        | inr j ↦ let (x, h, g) = over-in _ letters j in residuals-all d (after x (w ∷ ws)) (step x h (w ∷ ws) (p tt)) g
-      ]
-
   -- induction over the states
   pub states-all : (ls : List Words) → ((m : ℕ) → m < length ls → Filled (getD ls m []) → P (getD ls m [])) → {k : Words}
       → In k (states ls) → P k
-  states-all ls p i = let (m, h, j) = states-in ls i in residuals-all _ (getD ls m []) (p m h) j
+  states-all ls p i = let (m, h, j) = states-in ls i in residuals-all P step _ (getD ls m []) (p m h) j
 
 pub states-filled : (ls : List Words) {k : Words} → In k (states ls) → Filled k
 states-filled ls i = states-all Filled (λ x h k p f. f) ls (λ m h f. f) i
