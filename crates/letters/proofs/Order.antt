@@ -51,20 +51,12 @@ then-flip Ordering·lt p = refl
 then-flip Ordering·eq p = refl
 then-flip Ordering·gt p = refl
 
-eq-flip : (o : Ordering) → isEq o ≡ isEq (flip o)
-eq-flip Ordering·lt = refl
-eq-flip Ordering·eq = refl
-eq-flip Ordering·gt = refl
-
 order-flip : (u v : Word) → order v u ≡ flip (order u v)
 unfolding order
 order-flip [] [] = refl
 order-flip [] (y ∷ v) = refl
 order-flip (x ∷ u) [] = refl
 order-flip (x ∷ u) (y ∷ v) = rw (compare-flip x y, order-flip u v, then-flip)
-
-pub same-flip : (u v : Word) → same u v ≡ same v u
-same-flip u v = rw (order-flip u v) (eq-flip (order u v))
 
 pub after-before : (u v : Word) → order u v ≡ Ordering·gt → before v u ≡ true
 after-before u v e = rw (order-flip u v, e)

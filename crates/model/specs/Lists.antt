@@ -21,7 +21,6 @@ listOf ls m = getD ls m []
 abbrev pub replace : List Words → ℕ → Words → List Words
 replace ls m l = set ls m l
 
--- sixteen empty lists
 abbrev pub emptyLists : List Words
 emptyLists = replicate missions []
 

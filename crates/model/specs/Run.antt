@@ -7,7 +7,6 @@ use Rattle.model.specs.Call.Call.{empty, check, ask, next, add, remove, 
 use Rattle.model.specs.Refusals.{given}
 use Rattle.model.specs.Rules.{Rule, emptyRule, checkRule, askRule, nextRule, setRule, clearRule, loadRule, combineRule, countRule, rankRule, nthRule, usedRule}
 
--- the rule of each call
 abbrev pub rule : Book → Call → Rule
 rule b empty = emptyRule b
 rule b check = checkRule b

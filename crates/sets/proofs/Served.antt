@@ -18,7 +18,7 @@ use Rattle.sets.proofs.Membership.{In, listed-in}
 use Rattle.sets.proofs.Pigeons.{pigeons}
 use Rattle.sets.proofs.Sets.{plain-ext}
 use Rattle.sets.proofs.Residuals.{member-after, plain-after}
-use Rattle.sets.proofs.States.{Filled, states-all, states-apart}
+use Rattle.sets.proofs.States.{Filled, Carried, states-all, states-apart}
 use Rattle.sets.proofs.Automata.{none-accepted, accepts-step}
 
 plain-at : (ls : List Words) → Each Plain ls → (m : ℕ) → Plain (getD ls m [])
@@ -55,7 +55,7 @@ module _ (A : Automaton) where
         agrees = λ w g. cc (accepts-step A s e x w, p .agrees (x ∷ w) (h, g), member-after x w k);
       }
 
-  after-served : (x : ℕ) → x < letters → (k : Words) → Served k → Filled (after x k) → Served (after x k)
+  after-served : Carried Served
   after-served x h k p f = let (s, e, q) = p in filled-served (after x k) (A .arc s x) (arc-serves k s q e x h) f
 
   module _ (ls : List Words) (plain : Each Plain ls) (has : Languages A ls) where

@@ -34,7 +34,11 @@ module _ (given : ℕ → List Words) {k : Words} where
   in-over (suc n) x h i =
       elim (ℕ-discrete x n) [ yes e ↦ in-right (over n given) (rw e at i) | no e ↦ in-left (given n) (in-over n x (omega arith) i) ]
 
-module _ (P : Words → Type 0) (step : (x : ℕ) → x < letters → (k : Words) → P k → Filled (after x k) → P (after x k)) where
+-- what holds of a set goes over to what is left of it after a letter
+abbrev pub Carried : (Words → Type 0) → Type 0
+Carried P = (x : ℕ) → x < letters → (k : Words) → P k → Filled (after x k) → P (after x k)
+
+module _ (P : Words → Type 0) (step : Carried P) where
   residuals-all : (d : ℕ) (l : Words) → (Filled l → P l) → {k : Words} → In k (residuals d l) → P k
   unfolding residuals
   residuals-all zero l p i = absurd (nil-in i)
@@ -122,11 +126,10 @@ module _ (ls : List Words) where
       let (m, g, j) = states-in i in
       in-states m g (after-in-residuals _ (getD ls m []) (λ _. omega arith) x h j f)
 
-module _ (P : Words → Type 0) (step : (x : ℕ) → x < letters → (k : Words) → P k → Filled (after x k) → P (after x k)) where
-  -- induction over the states
-  pub states-all : (ls : List Words) → ((m : ℕ) → m < length ls → Filled (getD ls m []) → P (getD ls m [])) → {k : Words}
-      → In k (states ls) → P k
-  states-all ls p i = let (m, h, j) = states-in ls i in residuals-all P step _ (getD ls m []) (p m h) j
+-- induction over the states
+pub states-all : (P : Words → Type 0) → Carried P → (ls : List Words)
+    → ((m : ℕ) → m < length ls → Filled (getD ls m []) → P (getD ls m [])) → {k : Words} → In k (states ls) → P k
+states-all P step ls p i = let (m, h, j) = states-in ls i in residuals-all P step _ (getD ls m []) (p m h) j
 
 pub states-filled : (ls : List Words) {k : Words} → In k (states ls) → Filled k
 states-filled ls i = states-all Filled (λ x h k p f. f) ls (λ m h f. f) i

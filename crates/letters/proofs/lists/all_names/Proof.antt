@@ -4,6 +4,7 @@ use Prim.Native.Nat.{ℕ, _+_, _-_, _≤_, _<_}
 use mathlib.Core.Path.{_≡_, sym, _∙_}
 use mathlib.Core.Bool.{Bool, true, false, _&&_, and-false}
 use mathlib.Core.List.{List}
+use native.Mathlib.Omega.{arith}
 use borrow.Author.Needs.{needs}
 use borrow.Author.Tests.{not-true, not-false}
 use lib.ListN.{length, take, drop, drop-of-length-le}
@@ -44,7 +45,7 @@ name-end-requires c κs = search needs
 returns : tie.Need-returns Inv-loop μ-loop
 returns c =
     let at-test = c .before .before in
-    sym (at-test .before .loop .inv ∙ no-end _ _ _ (at-test .loop-test .taken) (c .before .name-end .ensures) (c .if1 .taken))
+    sym (at-test .before .loop .inv ∙ no-end _ _ _ (at-test .loop-test .taken) (c .before .name-end .ensures) (omega arith))
 
 sub-is-name : tie.Need-sub-is-name Inv-loop μ-loop
 sub-is-name c = search needs
