@@ -7,7 +7,8 @@ use Rattle.letters.specs.Names.{isName, isPrefix}
 use Rattle.letters.specs.Lists.{linesOf, ended, rises, isList}
 use Rattle.letters.specs.LetterSet.{sumOf, countOf}
 use Rattle.sets.specs.Sets.{member, keep, insert, delete, both, common, without}
-use Rattle.sets.specs.Residuals.{after, over, residuals, height, allResiduals, alike, distinct, states, need}
+use Rattle.sets.specs.Below.{over}
+use Rattle.sets.specs.Residuals.{after, residuals, height, allResiduals, alike, distinct, states, need}
 use Rattle.model.specs.Run.{run}
 use Rattle.examples.specs.Script.{passes, passesAll}
 use Rattle.examples.specs.Table.{table}

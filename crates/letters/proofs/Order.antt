@@ -1,14 +1,14 @@
 -- The laws of the order of words, on which sets of words stand: only equal words are the same, the order turns round with its words, and
 -- what stands before is transitive. Each law is shown of two letters first, by the clauses of `compare`; `then` carries it from the first
 -- letters and the rests to the words. Nothing here knows what a letter is. Assumes nothing.
-use Prim.Native.Nat.{ℕ, compare, Ordering, Ordering·lt, Ordering·eq, Ordering·gt}
+use Prim.Native.Nat.{ℕ, _<_, compare, Ordering, Ordering·lt, Ordering·eq, Ordering·gt}
 use mathlib.Core.Path.{_≡_, refl}
 use mathlib.Core.Bool.{true, false, _&&_, and-eq-true-iff}
 use mathlib.Core.List.{[], _∷_}
 use lib.Dec.{isEq, eqb}
 use borrow.Author.Tests.{eqb-true}
 use Rattle.letters.specs.Words.{Word, then, order, isBefore, before, same}
-use Rattle.letters.proofs.Compare.{compare-same, compare-eq, flip, compare-flip, compare-trans}
+use Rattle.letters.proofs.Compare.{compare-same, compare-eq, compare-lt, flip, compare-flip, compare-trans}
 
 -- a word and itself
 pub order-cons : (x : ℕ) (u v : Word) → order (x ∷ u) (x ∷ v) ≡ order u v
@@ -62,6 +62,10 @@ pub after-before : (u v : Word) → order u v ≡ Ordering·gt → before v u �
 after-before u v e = rw (order-flip u v, e)
 
 -- a word that stands before another
+pub lower-before : (x y : ℕ) (u v : Word) → x < y → before (x ∷ u) (y ∷ v) ≡ true
+unfolding order
+lower-before x y u v h = rw (compare-lt x y h)
+
 pub before-not-same : (u v : Word) → before u v ≡ true → same u v ≡ false
 before-not-same u v = go (order u v)
   where

@@ -1,7 +1,7 @@
 -- `distinct` has every set, and each once; and `placeIn` finds a set where it stands, or goes past the end. `alike` decides: what it holds
 -- for alike is equal, so a set that is thrown out stands further ahead, and the set at the head is not among those kept behind it.
 -- Assumes nothing.
-use Prim.Native.Nat.{suc, _≤_, _<_}
+use Prim.Native.Nat.{ℕ, zero, suc, _≤_, _<_}
 use native.Mathlib.Omega.{arith}
 use mathlib.Core.Path.{_≡_, refl, ap, sym}
 use mathlib.Core.Bool.{Bool, true, false, not, cond, false≢true}
@@ -11,7 +11,7 @@ use lib.ListN.{length, getD}
 use Rattle.sets.specs.Sets.{Words}
 use Rattle.sets.specs.Residuals.{alike, distinct, placeIn}
 use Rattle.sets.proofs.Residuals.{alike-refl, alike-eq}
-use Rattle.sets.proofs.Membership.{In, here, there, cons-in, Apart, keep-in, in-keep, keep-apart}
+use Rattle.sets.proofs.Membership.{In, here, there, in-cast, cons-in, getD-in, Apart, keep-in, in-keep, keep-apart}
 
 pub distinct-in : (ks : List Words) {k : Words} → In k (distinct ks) → In k ks
 unfolding distinct
@@ -51,3 +51,14 @@ no-place k (l ∷ ks) none = go (no-place k ks (λ i. none (there i))) (alike k 
     go : length ks ≤ placeIn k ks → (t : Bool) → alike k l ≡ t → length (l ∷ ks) ≤ cond t 0 (suc (placeIn k ks))
     go rest true e = absurd (none (here (alike-eq k l e)))
     go rest false e = omega arith
+
+pub place-at : (ks : List Words) → Apart ks → (p : ℕ) → p < length ks → placeIn (getD ks p []) ks ≡ p
+unfolding placeIn
+place-at [] apart p h = absurd (omega arith)
+place-at (k ∷ ks) apart zero h = rw (alike-refl k)
+place-at (k ∷ ks) apart (suc p) h =
+    go (getD ks p []) (getD-in [] ks p (omega arith)) (place-at ks (apart .1) p (omega arith)) (alike (getD ks p []) k) refl
+  where
+    go : (l : Words) → In l ks → placeIn l ks ≡ p → (t : Bool) → alike l k ≡ t → cond t 0 (suc (placeIn l ks)) ≡ suc p
+    go l i rest true e = absurd (apart .0 (in-cast (sym (alike-eq l k e)) i))
+    go l i rest false e = ap suc rest

@@ -1,8 +1,9 @@
 -- The laws of plain sets, and the theorem that no automaton has fewer states than they need. Assumes nothing.
+pub mod Membership
 pub mod Sets
 pub mod Residuals
 pub mod Cut
-pub mod Membership
+pub mod Below
 pub mod Pigeons
 pub mod Distinct
 pub mod States

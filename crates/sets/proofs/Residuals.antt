@@ -22,6 +22,11 @@ pub member-residual : (u w : Word) (l : Words) → member w (residual u l) ≡ m
 member-residual [] w l = refl
 member-residual (x ∷ u) w l = rw (member-residual u w (after x l), member-after)
 
+pub residual-none : (u : Word) → residual u [] ≡ []
+unfolding after
+residual-none [] = refl
+residual-none (x ∷ u) = residual-none u
+
 above-after : (x : ℕ) (w : Word) (l : Words) → Above (x ∷ w) l → Above w (after x l)
 above-after x w l h =
     members-above w (after x l) (λ u m. rw order-cons at (member-above (x ∷ w) l h (x ∷ u) (rw member-after at m)))

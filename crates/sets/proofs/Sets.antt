@@ -6,12 +6,13 @@ use Prim.Native.Nat.{Ordering, Ordering·lt, Ordering·eq, Ordering·gt}
 use mathlib.Core.Path.{_≡_, refl}
 use mathlib.Core.Bool.{Bool, true, false, not, cond, _&&_, _||_, false≢true}
 use mathlib.Core.Bool.{or-true, or-assoc, or-self-left, and-false, and-comm, and-or-distrib-left, and-eq-true-iff}
-use mathlib.Core.List.{[], _∷_}
+use mathlib.Core.List.{[], _∷_, _++_}
 use Rattle.letters.specs.Each.{Each}
 use Rattle.letters.specs.Words.{Word, Spelled, order, before, same}
 use Rattle.letters.specs.Lists.{rises}
 use Rattle.letters.proofs.Order.{order-eq, same-refl, same-eq, before-not-same, after-before, before-trans}
 use Rattle.sets.specs.Sets.{Words, member, Above, Rising, Plain, keep, put, insert, delete, both, common, without}
+use Rattle.sets.proofs.Membership.{each-append}
 
 -- a word in front where a test passes: a step of `keep`, and of `after`
 pub member-cond : (b : Bool) (u v : Word) (l : Words) → member u (cond b (v ∷ l) l) ≡ (b && same u v || member u l)
@@ -63,6 +64,11 @@ member-common u k l = rw member-keep (and-comm (member u l) (member u k))
 pub member-without : (u : Word) (k l : Words) → member u (without k l) ≡ (member u k && not (member u l))
 unfolding without
 member-without u k l = rw member-keep (and-comm (not (member u l)) (member u k))
+
+pub member-append : (u : Word) (k l : Words) → member u (k ++ l) ≡ (member u k || member u l)
+unfolding member
+member-append u [] l = refl
+member-append u (v ∷ vs) l = rw (member-append u vs l, or-assoc)
 
 -- what holds of w, and of u where b, holds of u where u is w or b
 same-or : (P : Word → Type 0) (u w : Word) (b : Bool) → (same u w || b) ≡ true → P w → (b ≡ true → P u) → P u
@@ -152,6 +158,14 @@ rising-common k l = rising-keep (λ v. member v l) k
 pub rising-without : (k l : Words) → Rising k → Rising (without k l)
 unfolding without
 rising-without k l = rising-keep (λ v. not (member v l)) k
+
+-- one list behind another
+pub rising-append : (k l : Words) → Rising k → Rising l → ((u v : Word) → member u k ≡ true → member v l ≡ true → before u v ≡ true)
+    → Rising (k ++ l)
+unfolding member
+rising-append [] l r s f = s
+rising-append (w ∷ ws) l r s f =
+    (each-append _ ws l (r .0) (members-above w l (λ v. f w v (rw same-refl))), rising-append ws l (r .1) s (λ u v m. f u v (rw (m, or-true))))
 
 -- sets with the same words
 above-absent : (w : Word) (l : Words) → Above w l → member w l ≡ false

@@ -3,17 +3,18 @@
 -- enough, because what is left after a letter has shorter words. Assumes nothing.
 use Prim.Native.Nat.{ℕ, zero, suc, _<_}
 use native.Mathlib.Omega.{arith}
-use native.Mathlib.Decide.{ℕ-discrete}
-use mathlib.Core.Path.{refl}
-use mathlib.Core.Bool.{Bool, true, false, cond}
+use mathlib.Core.Path.{_≡_, refl}
+use mathlib.Core.Bool.{Bool, true, false, cond, false≢true}
 use mathlib.Core.Logic.{inl, inr}
 use mathlib.Core.List.{List, [], _∷_}
 use lib.Dec.{eqb}
 use lib.ListN.{length, getD}
 use Rattle.letters.specs.Letters.{letters}
-use Rattle.sets.specs.Sets.{Words}
-use Rattle.sets.specs.Residuals.{after, over, residuals, height, allResiduals, states}
+use Rattle.letters.specs.Words.{Word}
+use Rattle.sets.specs.Sets.{Words, member}
+use Rattle.sets.specs.Residuals.{after, residuals, height, allResiduals, states}
 use Rattle.sets.proofs.Membership.{In, here, there, nil-in, cons-in, append-in, in-left, in-right, Apart}
+use Rattle.sets.proofs.Below.{over-in, in-over}
 use Rattle.sets.proofs.Distinct.{distinct-in, in-distinct, distinct-apart}
 
 -- the set has a word
@@ -21,18 +22,15 @@ abbrev pub Filled : Words → Type 0
 Filled [] = ⊥
 Filled (w ∷ ws) = Unit {0}
 
-module _ (given : ℕ → List Words) {k : Words} where
-  over-in : (n : ℕ) → In k (over n given) → (x : ℕ) × (x < n) × In k (given x)
-  unfolding over
-  over-in zero i = absurd (nil-in i)
-  over-in (suc n) i =
-      elim (append-in (over n given) i) [ inl j ↦ let (x, h, g) = over-in n j in (x, omega arith, g) | inr g ↦ (n, omega arith, g) ]
+pub member-filled : (w : Word) (l : Words) → member w l ≡ true → Filled l
+unfolding member
+member-filled w [] m = false≢true m
+member-filled w (v ∷ vs) m = tt
 
-  in-over : (n x : ℕ) → x < n → In k (given x) → In k (over n given)
-  unfolding over
-  in-over zero x h i = absurd (omega arith)
-  in-over (suc n) x h i =
-      elim (ℕ-discrete x n) [ yes e ↦ in-right (over n given) (rw e at i) | no e ↦ in-left (given n) (in-over n x (omega arith) i) ]
+pub after-filled : (x : ℕ) (l : Words) → Filled (after x l) → Filled l
+unfolding after
+after-filled x [] f = f
+after-filled x (v ∷ vs) f = tt
 
 -- what holds of a set goes over to what is left of it after a letter
 abbrev pub Carried : (Words → Type 0) → Type 0

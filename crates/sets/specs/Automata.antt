@@ -67,11 +67,22 @@ pub record reachable (A : Automaton) (t s : ℕ) : Type 0 where
 abbrev pub equivalent : Automaton → ℕ → ℕ → Type 0
 equivalent A s t = (w : Word) → Spelled w → accepts A w s ≡ accepts A w t
 
--- Definition 4: n is the number of states of a minimal automaton with these languages. Some automaton with n states has them, and none has
--- them with fewer.
+-- Theorem 5, for several starts: "every state is reachable from the starting state, from every state a final state is reachable and there are
+-- no different equivalent states"; and the automaton is acyclic
+pub record Theorem5 (A : Automaton) : Type 0 where
+  pub no-cycle : acyclic A
+  pub reached : (s : ℕ) → isState A s ≡ true → (m : ℕ) × (m < length (A .starts)) × reachable A (getD (A .starts) m 0) s
+  pub useful : (s : ℕ) → isState A s ≡ true → (f : ℕ) × reachable A s f × (A .final f ≡ true)
+  pub different : (s t : ℕ) → isState A s ≡ true → isState A t ≡ true → equivalent A s t → s ≡ t
+
+-- Definition 4: the automaton is minimal with these languages. It lists each state once, and no automaton with the same languages has fewer.
+pub record Minimal (A : Automaton) (ls : List Words) : Type 0 where
+  pub once : Once (A .states)
+  pub has : Languages A ls
+  pub none-fewer : (B : Automaton) → Languages B ls → size A ≤ size B
+
+-- n is the number of states of a minimal automaton with these languages
 pub record Fewest (ls : List Words) (n : ℕ) : Type 0 where
   pub some : Automaton
-  pub once : Once (some .states)
-  pub has : Languages some ls
+  pub minimal : Minimal some ls
   pub counted : size some ≡ n
-  pub none-fewer : (A : Automaton) → Languages A ls → n ≤ size A

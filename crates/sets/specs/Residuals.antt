@@ -6,6 +6,7 @@ use lib.Dec.{eqb}
 use lib.ListN.{length}
 use Rattle.letters.specs.Letters.{letters}
 use Rattle.letters.specs.Words.{Word, same}
+use Rattle.sets.specs.Below.{over}
 use Rattle.sets.specs.Sets.{Words, keep}
 
 -- the words of the list that begin with the letter, without it
@@ -18,11 +19,6 @@ after x ((y ∷ w) ∷ ws) = cond (eqb x y) (w ∷ after x ws) (after x ws)
 abbrev pub residual : Word → Words → Words
 residual [] l = l
 residual (x ∷ w) l = residual w (after x l)
-
--- what a letter gives, over the letters below n, rising, one behind the other
-unfoldable pub over : ℕ → (ℕ → List Words) → List Words
-over zero given = []
-over (suc n) given = over n given ++ given n
 
 -- the set and all that is left of it after some letters, depth first, letters rising; no empty one. The depth is one more than the letters of
 -- the longest word.

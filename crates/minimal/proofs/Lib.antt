@@ -1,0 +1,7 @@
+-- Demand 3 on the table. Assumes nothing.
+pub mod Counting
+pub mod Places
+pub mod Book
+pub mod Renumbering
+pub mod Matching
+pub mod Theorems

@@ -1,0 +1,210 @@
+-- A renumbering of a sound book is a sound book with the same lists. Every state row of u is the row `to r` of a state row r of t, and its
+-- forty numbers are those of r with the targets carried along; so each rule is carried over row by row, and the words, made of marks and
+-- targets, are the same by recursion on their length. So the words of each row of u are left of t's lists, and u has no more rows in use than
+-- these need. Assumes nothing.
+use Prim.Native.Nat.{ℕ, zero, suc, _+_, _-_, _*_, _≤_, _<_}
+use native.Mathlib.Omega.{arith}
+use native.Mathlib.Nat.{add-zero}
+use native.Mathlib.Decide.{ℕ-discrete}
+use mathlib.Core.Path.{_≡_, refl, sym, _∙_, ap}
+use mathlib.Core.Bool.{true, cond}
+use mathlib.Core.Logic.{inl, inr}
+use mathlib.Core.List.{List, [], _∷_, _++_}
+use lib.Dec.{eqb}
+use lib.ListN.{getD, length}
+use lib.Seq.{ext-getD}
+use Rattle.letters.specs.Letters.{letters}
+use Rattle.letters.specs.Names.{longest}
+use Rattle.sets.specs.Below.{over}
+use Rattle.sets.specs.Residuals.{states}
+use Rattle.sets.proofs.Membership.{In}
+use Rattle.model.specs.Lists.{missions}
+use Rattle.rows.specs.Table.{Table, width, isRow, start, mark, height, target, last, room, usedRows}
+use Rattle.rows.specs.Tidy.{Used, Named, Arc, Tidy, Pointed, Sound}
+use Rattle.rows.specs.Words.{behind, shortWords, words, lists}
+use Rattle.rows.specs.Growth.{Useful}
+use Rattle.rows.proofs.Facts.{row-inside, inside-row, used-row, named-cases, target-named}
+use Rattle.rows.proofs.Books.{lists-sixteen, list-names}
+use Rattle.minimal.specs.Renumbered.{Renumbered}
+use Rattle.minimal.proofs.Places.{used-in-states, used-rows-need, useful-rows}
+
+over-same : {A : Type 0} (given other : ℕ → List A) (n : ℕ) → ((i : ℕ) → i < n → given i ≡ other i) → over n given ≡ over n other
+unfolding over
+over-same given other zero f = refl
+over-same given other (suc n) f = rw (over-same given other n (λ i h. f i (omega arith)), f n (omega arith))
+
+-- what holds of the mark, the height, the targets and the last number holds of all forty numbers of a row
+forty : (t : Table) (r : ℕ) (P : ℕ → Type 0) → P (mark t r) → P (height t r) → ((x : ℕ) → x < letters → P (target t r x)) → P (last t r)
+    → (i : ℕ) → i < width → P (getD t (r * width + i) 0)
+forty t r P m h ts l i below =
+    elim (ℕ-discrete i 0) [
+      | yes e ↦ rw (e, add-zero) m
+      | no none ↦ elim (ℕ-discrete i 1) [
+        | yes e ↦ rw e h
+        | no one ↦ elim (ℕ-discrete i 39) [
+          | yes e ↦ rw e l
+          | no end ↦ let e : r * width + i ≡ r * width + 2 + (i - 2) = omega arith in rw e (ts (i - 2) (omega arith))
+        ]
+      ]
+    ]
+
+-- "a free row is forty zeros"
+module _ (t : Table) (tidy : Tidy t) (r : ℕ) (row : isRow t r ≡ true) (e : mark t r ≡ 0) where
+  pub free-cell : (i : ℕ) → i < width → getD t (r * width + i) 0 ≡ 0
+  free-cell i h = let (positive, inside) = row-inside t r row in tidy .zeros r i positive inside e h
+
+  pub free-target : (x : ℕ) → x < letters → target t r x ≡ 0
+  free-target x h =
+      let same : r * width + 2 + x ≡ r * width + (2 + x) = omega arith in
+      rw same (free-cell (2 + x) (omega arith))
+
+module _ (t u : Table) (by : Renumbered t u) where
+  abbrev to : ℕ → ℕ
+  to n = by .to n
+
+  to-some : (n : ℕ) → 0 < to n → 0 < n
+  to-some n h = elim (ℕ-discrete n 0) [ yes e ↦ absurd (omega (arith, ap (by .to) e ∙ by .none)) | no e ↦ omega arith ]
+
+  -- every row of u is `to` of one of t
+  each-row : (P : ℕ → Type 0) → ((r : ℕ) → isRow t r ≡ true → P (to r)) → (s : ℕ) → isRow u s ≡ true → P s
+  each-row P f s e = rw (by .to-from s e) at (f (by .from s) (by .from-row s e))
+
+  to-used : {r : ℕ} → Used t r → Used u (to r)
+  to-used {r} p =
+      let row = used-row p in
+      let (positive, inside) = row-inside u (to r) (by .to-row r row) in
+      record { positive = positive; inside = inside; marked = rw (by .marks r row) (p .marked) }
+
+  each-used : (P : ℕ → Type 0) → ((r : ℕ) → Used t r → P (to r)) → (s : ℕ) → Used u s → P s
+  each-used P f s p = each-row (λ s. Used u s → P s) back s (used-row p) p
+    where
+      back : (r : ℕ) → isRow t r ≡ true → Used u (to r) → P (to r)
+      back r row q =
+          let (positive, inside) = row-inside t r row in
+          f r (record { positive = positive; inside = inside; marked = rw (by .marks r row) at (q .marked) })
+
+  module _ (tidy : Tidy t) where
+    -- a number that names a row in use or none is found again
+    to-one : (m n : ℕ) → Named t m → Named t n → to m ≡ to n → m ≡ n
+    to-one m n p q e = sym (found m p) ∙ (ap back e ∙ found n q)
+      where
+        back : ℕ → ℕ
+        back n = cond (isRow u n) (by .from n) 0
+
+        found : (n : ℕ) → Named t n → back (to n) ≡ n
+        found n p =
+            elim (named-cases p) [
+              | inl v ↦ let row = used-row v in rw (by .to-row n row) (by .from-to n row)
+              | inr e ↦ rw (e, by .none)
+            ]
+
+    to-target : {r x : ℕ} → Used t r → x < letters → target u (to r) x ≡ to (target t r x)
+    to-target {r} {x} p h = by .targets r x (used-row p) h
+
+    to-height : {r : ℕ} → Used t r → height u (to r) ≡ height t r
+    to-height {r} p = by .heights r (used-row p)
+
+    arc-to : {r x : ℕ} → Arc t r x → Arc u (to r) x
+    arc-to {r} {x} a =
+        let e = to-target (a .used) (a .letter) in
+        record { used = to-used (a .used); letter = a .letter; there = rw e (to-used (tidy .targets r x a) .positive) }
+
+    target-height : {r x : ℕ} → Arc t r x → height u (target u (to r) x) ≡ height t (target t r x)
+    target-height {r} {x} a = rw (to-target (a .used) (a .letter)) (to-height (tidy .targets r x a))
+
+    each-arc : (P : ℕ → ℕ → Type 0) → ((r x : ℕ) → Arc t r x → P (to r) x) → (s x : ℕ) → Arc u s x → P s x
+    each-arc P f s x a = each-used (λ s. Arc u s x → P s x) back s (a .used) a
+      where
+        back : (r : ℕ) → Used t r → Arc u (to r) x → P (to r) x
+        back r p b =
+            f r x (record { used = p; letter = b .letter; there = to-some (target t r x) (rw (to-target p (b .letter)) at (b .there)) })
+
+    to-zeros : (r : ℕ) → isRow t r ≡ true → mark u (to r) ≡ 0 → (i : ℕ) → i < width → getD u (to r * width + i) 0 ≡ 0
+    to-zeros r row e =
+        let free : mark t r ≡ 0 = sym (by .marks r row) ∙ e in
+        forty u (to r) (λ n. n ≡ 0) e (by .heights r row ∙ free-cell t tidy r row free 1 (omega arith))
+        (λ x h. by .targets r x row h ∙ (ap (by .to) (free-target t tidy r row free x h) ∙ by .none))
+        (by .lasts r row ∙ free-cell t tidy r row free 39 (omega arith))
+
+    -- rows of u "agree in mark and all 37 targets"
+    abbrev Alike : ℕ → ℕ → Type 0
+    Alike r s = (mark u r ≡ mark u s) × ((x : ℕ) → x < letters → target u r x ≡ target u s x)
+
+    to-apart : (r s : ℕ) → Used t r → Used t s → Alike (to r) (to s) → r ≡ s
+    to-apart r s p q a =
+        tidy .apart r s p q (cc (a .0, by .marks r (used-row p), by .marks s (used-row q)))
+        (λ x h.
+        to-one (target t r x) (target t s x) (target-named t tidy r x p h) (target-named t tidy s x q h)
+        (cc (a .1 x h, to-target p h, to-target q h)))
+
+    to-tidy : Tidy u
+    to-tidy =
+        record {
+          whole = rw (by .long) (tidy .whole);
+          least = rw (by .long) (tidy .least);
+          most = rw (by .long) (tidy .most);
+          starts = λ m h some.
+              let e = by .starts m h in
+              let (p, one) = tidy .starts m h (to-some (start t m) (rw e at some)) in
+              rw e (to-used p, by .marks _ (used-row p) ∙ one);
+          rest = λ i low high. by .rest i low high ∙ tidy .rest i low high;
+          marks = each-used (λ s. mark u s ≤ 2) (λ r p. rw (by .marks r (used-row p)) (tidy .marks r p));
+          zeros = λ s i positive inside e h.
+              each-row (λ s. mark u s ≡ 0 → getD u (s * width + i) 0 ≡ 0) (λ r row d. to-zeros r row d i h)
+              s (inside-row u s positive inside) e;
+          targets = each-arc (λ s x. Used u (target u s x))
+              (λ r x a. rw (to-target (a .used) (a .letter)) (to-used (tidy .targets r x a)));
+          lower = each-arc (λ s x. height u (target u s x) < height u s)
+              (λ r x a. rw (target-height a, to-height (a .used)) (tidy .lower r x a));
+          tight = λ s top.
+              each-used (λ s. ((x : ℕ) → Arc u s x → height u (target u s x) < top) → height u s ≤ top)
+              (λ r p f. rw (to-height p) (tidy .tight r top p (λ x a. rw (target-height a) at (f x (arc-to a))))) s;
+          low = each-used (λ s. height u s ≤ longest) (λ r p. rw (to-height p) (tidy .low r p));
+          lasts = each-used (λ s. last u s ≡ 0) (λ r p. by .lasts r (used-row p) ∙ tidy .lasts r p);
+          arc = each-used (λ s. mark u s ≡ 1 → (x : ℕ) × Arc u s x)
+              (λ r p e. let (x, a) = tidy .arc r p (sym (by .marks r (used-row p)) ∙ e) in (x, arc-to a));
+          apart = λ r s p q e f.
+              each-used (λ r. Alike r s → r ≡ s)
+              (λ r p. each-used (λ s. Alike (to r) s → to r ≡ s) (λ s q a. ap (by .to) (to-apart r s p q a)) s q) r p (e, f);
+        }
+
+    to-pointed : ((r : ℕ) → Used t r → Pointed t r) → (s : ℕ) → Used u s → Pointed u s
+    to-pointed pointed = each-used (Pointed u) (λ r p. go (pointed r p))
+      where
+        go : {r : ℕ} → Pointed t r → Pointed u (to r)
+        go (inl (m, h, e)) = inl (m, h, by .starts m h ∙ ap (by .to) e)
+        go (inr (q, x, a, e)) = inr (to q, x, arc-to a, to-target (a .used) (a .letter) ∙ ap (by .to) e)
+
+    to-words : (most n : ℕ) → Named t n → shortWords most u (to n) ≡ shortWords most t n
+    unfolding shortWords
+    to-words zero n named = refl
+    to-words (suc most) n named =
+        elim (named-cases named) [
+          | inl p ↦
+              let row = used-row p in
+              let rest : (x : ℕ) → x < letters → shortWords most u (target u (to n) x) ≡ shortWords most t (target t n x) =
+              λ x h. rw (to-target p h) (to-words most (target t n x) (target-named t tidy n x p h)) in
+              rw (by .to-row n row, row, by .marks n row)
+              (ap (λ l. cond (eqb (mark t n) 2) ([] ∷ []) [] ++ l) (over-same _ _ letters (λ x h. ap (behind x) (rest x h))))
+          | inr e ↦ rw (e, by .none)
+        ]
+
+    to-lists : lists u ≡ lists t
+    to-lists = ext-getD [] (lists u) (lists t) (lists-sixteen u ∙ sym (lists-sixteen t)) names-same
+      where
+        names-same : (m : ℕ) → m < length (lists u) → getD (lists u) m [] ≡ getD (lists t) m []
+        names-same m h =
+            let below : m < missions = omega (arith, lists-sixteen u) in
+            list-names u m below
+            ∙ (rw (by .starts m below) (to-words (suc longest) (start t m) (λ p. tidy .starts m below p .0)) ∙ sym (list-names t m below))
+
+pub renumbered-sound : (t u : Table) → Renumbered t u → Sound t → Sound u × (lists u ≡ lists t)
+renumbered-sound t u by facts =
+    let tidy = facts .tidy in
+    let useful : Useful (lists t) u =
+    each-used t u by (λ s. In (words u s) (states (lists t)))
+    (λ r p. rw (to-words t u by tidy (suc longest) r (λ _. p)) (used-in-states t facts r p))
+    in
+    let used = useful-rows u (to-tidy t u by tidy) (lists t) useful in
+    let fits : usedRows u ≤ room u = omega (arith, used-rows-need t facts) in
+    (record { tidy = to-tidy t u by tidy; pointed = to-pointed t u by tidy (facts .pointed); fits = fits }, to-lists t u by tidy)

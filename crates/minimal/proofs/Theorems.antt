@@ -1,0 +1,82 @@
+-- What is promised of the rows of a book: they are exactly the states that its lists need, no automaton has fewer, and which rows hold them is
+-- all that is free. The proofs are put together here from those of the other files. Assumes nothing.
+use Prim.Native.Nat.{ℕ, _≤_}
+use mathlib.Core.Path.{_≡_}
+use mathlib.Core.Bool.{true, or-false}
+use mathlib.Core.List.{List, [], _∷_}
+use lib.ListN.{length}
+use Rattle.letters.specs.LetterSet.{countOf}
+use Rattle.sets.specs.Sets.{Words}
+use Rattle.sets.specs.Residuals.{need}
+use Rattle.sets.specs.Automata.{size, Theorem5, Minimal}
+use Rattle.sets.proofs.Served.{none-fewer}
+use Rattle.rows.specs.Table.{Table, rowCount, starts, usedRows}
+use Rattle.rows.specs.Words.{words, lists}
+use Rattle.rows.specs.Rules.{sound}
+use Rattle.rows.specs.Tidy.{Used, Named, Tidy}
+use Rattle.rows.specs.Reach.{reaches, reached}
+use Rattle.rows.specs.Growth.{Useful}
+use Rattle.rows.proofs.Rules.{sound-facts, facts-sound}
+use Rattle.rows.proofs.Books.{lists-plain, starts-named, sound-reached}
+use Rattle.minimal.specs.Book.{automaton}
+use Rattle.minimal.specs.Places.{OneToOne}
+use Rattle.minimal.specs.Renumbered.{Renumbered}
+use Rattle.minimal.proofs.Places.{reached-need, used-one-to-one, used-rows-need, useful-rows}
+use Rattle.minimal.proofs.Book.{state-used, automaton-size, automaton-once, automaton-languages}
+use Rattle.minimal.proofs.Book.{automaton-acyclic, automaton-reached, automaton-useful, automaton-different}
+use Rattle.minimal.proofs.Renumbering.{renumbered-sound}
+use Rattle.minimal.proofs.Matching.{matched-renumbered}
+
+-- In a sound book the rows in use stand for the sets that are left of the lists, one row for each set.
+pub place-one-to-one : (t : Table) → sound t ≡ true → OneToOne (lists t) t (Used t)
+place-one-to-one t e = used-one-to-one t (sound-facts t e)
+
+-- So a sound book has as many rows in use as its lists need.
+pub used-need : (t : Table) → sound t ≡ true → usedRows t ≡ need (lists t)
+used-need t e = used-rows-need t (sound-facts t e)
+
+-- In a tidy table as many rows are reached from the starts as the lists need.
+pub starts-need : (t : Table) → Tidy t → countOf (rowCount t) (λ r. reached t r) ≡ need (lists t)
+starts-need t tidy = reached-need t tidy (starts t) (starts-named t tidy)
+
+-- And as many are reached from one row as the words of that row need.
+pub row-need : (t : Table) → Tidy t → (r : ℕ) → Named t r → countOf (rowCount t) (λ s. reaches t r s) ≡ need (words t r ∷ [])
+row-need t tidy r named = simp or-false at (reached-need t tidy (r ∷ []) (named, tt))
+
+-- Where the words of every row in use are left of some lists, no more rows are in use than those lists need.
+pub useful-need : (t : Table) → Tidy t → (ls : List Words) → Useful ls t → usedRows t ≤ need ls
+useful-need = useful-rows
+
+-- The states of a book's automaton are counted by the rows in use.
+pub book-size : (t : Table) → size (automaton t) ≡ usedRows t
+book-size = automaton-size
+
+-- The automaton of a sound book has the book's lists as its languages, and no automaton with these languages has fewer states.
+pub sound-fewest : (t : Table) → sound t ≡ true → Minimal (automaton t) (lists t)
+unfolding need
+sound-fewest t e =
+    record {
+      once = automaton-once t;
+      has = automaton-languages t (sound-facts t e .tidy);
+      none-fewer = λ B has. rw (book-size t, used-need t e) (none-fewer B (lists t) (lists-plain t) has);
+    }
+
+-- The automaton of a sound book is what Theorem 5 of source document 002 asks for: it has no cycle, every state is reached from a start, from
+-- every state a final one is reached, and no two states are equivalent.
+pub sound-theorem-5 : (t : Table) → sound t ≡ true → Theorem5 (automaton t)
+sound-theorem-5 t e =
+    let facts = sound-facts t e in
+    record {
+      no-cycle = automaton-acyclic t (facts .tidy);
+      reached = λ r state. automaton-reached t (facts .tidy) r (sound-reached t facts r (state-used t r state));
+      useful = automaton-useful t (facts .tidy);
+      different = automaton-different t (facts .tidy);
+    }
+
+-- A sound book whose state rows are put into another order is a sound book with the same lists.
+pub renumbered-same : (t u : Table) → Renumbered t u → sound t ≡ true → (sound u ≡ true) × (lists u ≡ lists t)
+renumbered-same t u by e = let (facts, same) = renumbered-sound t u by (sound-facts t e) in (facts-sound u facts, same)
+
+-- Sound books of one length with the same lists differ in nothing but the order of their state rows.
+pub same-lists-renumbered : (t u : Table) → sound t ≡ true → sound u ≡ true → length u ≡ length t → lists u ≡ lists t → Renumbered t u
+same-lists-renumbered t u d e = matched-renumbered t u (sound-facts t d) (sound-facts u e)

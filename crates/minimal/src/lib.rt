@@ -1,0 +1,1 @@
+// Demand 3 on the table: definitions and theorems, no code.

@@ -1,0 +1,7 @@
+-- The laws of the table, for every layer above: nobody above looks into a row. Assumes nothing.
+pub mod Facts
+pub mod Rules
+pub mod Walk
+pub mod Words
+pub mod Reach
+pub mod Books

@@ -1,0 +1,28 @@
+-- 01: "ask and next work on any numbers." The walk of a word through a table. Assumes nothing.
+use Prim.Native.Nat.{ℕ}
+use mathlib.Core.Bool.{Bool, cond, _&&_}
+use mathlib.Core.List.{[], _∷_}
+use Rattle.letters.specs.Words.{Word}
+use Rattle.rows.specs.Table.{Table, isRow, target, ends}
+
+-- where a walk ends: on a row, or on none (0), with what is left of the word
+pub record Walk : Type 0 where
+  pub row : ℕ
+  pub left : Word
+
+-- from a row, "Each step goes on with what is left of the word after the letters walked." It ends where the target is no row.
+unfoldable pub walk : Table → Word → ℕ → Walk
+walk t [] r = record { row = r; left = [] }
+walk t (x ∷ w) r = cond (isRow t (target t r x)) (walk t w (target t r x)) (record { row = 0; left = x ∷ w })
+
+-- from any number
+unfoldable pub walkFrom : Table → Word → ℕ → Walk
+walkFrom t w n = cond (isRow t n) (walk t w n) (record { row = 0; left = w })
+
+-- "ask says 1 exactly when the walk ends on a row with mark 2."
+abbrev pub accepts : Table → Word → ℕ → Bool
+accepts t w n = ends t (walkFrom t w n .row)
+
+-- "next reports each letter whose target is a row."
+abbrev pub follows : Table → Word → ℕ → ℕ → Bool
+follows t w n x = isRow t (walkFrom t w n .row) && isRow t (target t (walkFrom t w n .row) x)

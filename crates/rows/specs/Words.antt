@@ -1,0 +1,34 @@
+-- The words from a row, in rising order, and the sixteen lists. Assumes nothing.
+use Prim.Native.Nat.{ℕ, zero, suc}
+use mathlib.Core.Bool.{cond}
+use mathlib.Core.List.{List, [], _∷_, _++_, map}
+use lib.Dec.{eqb}
+use Rattle.letters.specs.Letters.{letters}
+use Rattle.letters.specs.Names.{longest}
+use Rattle.sets.specs.Below.{over}
+use Rattle.sets.specs.Sets.{Words}
+use Rattle.rows.specs.Table.{Table, isRow, start, starts, mark, target}
+
+-- the words, each with the letter before it
+abbrev pub behind : ℕ → Words → Words
+behind x l = map (λ w. x ∷ w) l
+
+-- from a row: the empty word where a name may end here, and letter by letter what the targets give
+abbrev pub rowWords : Table → ℕ → (ℕ → Words) → Words
+rowWords t r given = cond (eqb (mark t r) 2) ([] ∷ []) [] ++ over letters (λ x. behind x (given (target t r x)))
+
+-- of fewer than so many letters
+unfoldable pub shortWords : ℕ → Table → ℕ → Words
+shortWords zero t n = []
+shortWords (suc most) t n = cond (isRow t n) (rowWords t n (λ s. shortWords most t s)) []
+
+-- no word has more letters than the longest name
+abbrev pub words : Table → ℕ → Words
+words t n = shortWords (suc longest) t n
+
+-- "A book holds sixteen lists of names for missions 0 to 15."
+abbrev pub names : Table → ℕ → Words
+names t m = words t (start t m)
+
+abbrev pub lists : Table → List Words
+lists t = map (λ n. words t n) (starts t)

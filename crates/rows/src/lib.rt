@@ -1,0 +1,22 @@
+// The rows, reading half: the table's length and room, and a row's numbers by name. Each promise is
+// an equation with a definition of specs/. Whoever is above goes by those names and by the laws of
+// proofs/, and never by the place of a number in the slice.
+mod fill;
+mod table;
+
+pub use fill::fill_with_zeros;
+pub use table::LEAST_ROWS;
+pub use table::MISSIONS;
+pub use table::MOST_ROWS;
+pub use table::WIDTH;
+pub use table::height;
+pub use table::in_use;
+pub use table::is_row;
+pub use table::last;
+pub use table::length_ok;
+pub use table::mark;
+pub use table::room;
+pub use table::row_count;
+pub use table::start;
+pub use table::target;
+pub use table::used_rows;

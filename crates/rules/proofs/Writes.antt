@@ -1,0 +1,54 @@
+-- How the array of the rows that are pointed at grows: nothing written points at no row, one write points at one, and one list of writes
+-- behind another points at the rows of both. An array that was zeros then says which rows are pointed at. Assumes nothing.
+use Prim.Native.Nat.{ℕ, zero, suc, _≤_, _<_}
+use mathlib.Core.Path.{_≡_, refl, sym, _∙_}
+use mathlib.Core.Bool.{Bool, true, false, cond, _||_}
+use mathlib.Core.List.{List}
+use native.Mathlib.Decide.{ℕ-discrete}
+use borrow.Author.Tests.{eq-eqb, ne-eqb}
+use lib.Dec.{eqb}
+use lib.ListN.{length, getD, set, replicate, length-set, length-replicate}
+use lib.Seq.{getD-set-same, getD-set-other}
+use Rattle.rows.specs.Table.{Table, width, rowCount}
+use Rattle.rules.specs.Pointed.{Pointed, targetOfBelow, Targets}
+
+pub points-nowhere : {at : ℕ → Bool} {p : List ℕ} → ((s : ℕ) → at s ≡ false) → Pointed at p p
+points-nowhere none = record { long = refl; points = λ s h. rw (none s) }
+
+pub points-at-one : (p : List ℕ) (n : ℕ) → n < length p → Pointed (λ s. eqb n s) p (set p n 1)
+points-at-one p n inside =
+    record {
+      long = length-set p n 1;
+      points = λ s h.
+          elim (ℕ-discrete s n) [
+            | yes e ↦ rw (e, eq-eqb n n refl, getD-set-same p n 1 0 inside)
+            | no e ↦ rw (ne-eqb n s (λ d. e (sym d)), getD-set-other p n s 1 0 e)
+          ];
+    }
+
+pub points-at-both : {first second both : ℕ → Bool} {p q r : List ℕ}
+    → Pointed first p q → Pointed second q r → ((s : ℕ) → 0 < s → both s ≡ (first s || second s)) → Pointed both p r
+points-at-both {first} {second} {both} {p} {q} {r} one two same =
+    record {
+      long = two .long ∙ one .long;
+      points = λ s h. rw (two .points s h, one .points s h, same s h) (go (first s) (second s) (getD p s 0));
+    }
+  where
+    go : (a b : Bool) (n : ℕ) → cond b 1 (cond a 1 n) ≡ cond (a || b) 1 n
+    go true true n = refl
+    go true false n = refl
+    go false b n = refl
+
+zeros : (n s : ℕ) → _≡_ {A = ℕ} (getD (replicate n 0) s 0) 0
+zeros zero s = refl
+zeros (suc n) zero = refl
+zeros (suc n) (suc s) = zeros n s
+
+pub targets-from-zeros : (t : Table) {n : ℕ} {p : List ℕ} → width ≤ length t → rowCount t ≤ n
+    → Pointed (λ s. targetOfBelow t (rowCount t) s) (replicate n 0) p → Targets t p
+targets-from-zeros t {n} whole inside d =
+    record {
+      head = whole;
+      long = rw (d .long, length-replicate {A = ℕ}) inside;
+      points = λ s h. rw (d .points s h, zeros n s);
+    }

@@ -1,0 +1,105 @@
+-- `rule3` meets its promise. The loop's invariant: the rows below `r` pass, and the array points at their targets. The measure is the rows that
+-- are left. Assumes nothing.
+use Prim.Native.Nat.{ℕ, _-_, _≤_, max}
+use mathlib.Core.Path.{_≡_, refl, sym, _∙_}
+use mathlib.Core.Bool.{true, false≢true}
+use mathlib.Core.List.{List}
+use native.Mathlib.Decide.{ℕ-discrete}
+use native.Mathlib.Numerals.{add-one}
+use native.Mathlib.Omega.{arith}
+use borrow.Author.Needs.{needs}
+use borrow.Author.Tests.{not-true, not-false}
+use Rattle.sets.specs.Below.{allBelow, someBelow}
+use Rattle.sets.proofs.Below.{not-all-below}
+use Rattle.rows.specs.Table.{Table, rowCount}
+use Rattle.rows.specs.Rules.{ifUsed, arcsOk, rule3}
+use Rattle.rules.specs.Pointed.{Pointed, targetOfBelow}
+use Rattle.rules.proofs.Loops.{all-more, all-done}
+use Rattle.rules.proofs.Writes.{points-nowhere, points-at-both}
+use Rattle.rules.proofs.arcs.rule3.Statement.{statement}
+use Rattle.rules.proofs.arcs.rule3.Tie as tie
+
+-- the loop ends behind the last row, and in a table without rows at row 1, below which nothing is in use
+all-rows : (t : Table) (k r : ℕ) {p q : List ℕ} → k ≤ r → r ≤ max k 1
+    → Pointed (λ s. targetOfBelow t r s) p q → Pointed (λ s. targetOfBelow t k s) p q
+unfolding someBelow
+all-rows t k r past near d =
+    elim (ℕ-discrete r k) [
+      | yes e ↦ rw e at d
+      | no e ↦
+          let none : k ≡ 0 = omega arith in
+          let one : r ≡ 1 = omega arith in
+          rw none (rw one at d)
+    ]
+
+abbrev Inv-loop : tie.InvT-loop
+Inv-loop t pointed₀ k r₀ pointed r =
+    (r ≤ max k 1) × (allBelow r (λ s. ifUsed t s (arcsOk t s)) ≡ true) × Pointed (λ s. targetOfBelow t r s) pointed₀ pointed
+
+abbrev μ-loop : tie.MeasureT-loop
+μ-loop t pointed₀ k r₀ pointed r = k - r
+
+row-count-requires : tie.Need-row-count-requires Inv-loop μ-loop
+row-count-requires c κs = search needs
+
+loop-holds : tie.Need-loop-holds Inv-loop μ-loop
+unfolding allBelow someBelow
+loop-holds c = (omega arith, refl, points-nowhere (λ s. refl))
+
+row-ok-requires : tie.Need-row-ok-requires Inv-loop μ-loop
+row-ok-requires c κs = search needs
+
+same-length : tie.Need-same-length Inv-loop μ-loop
+same-length c = search needs
+
+returns : tie.Need-returns Inv-loop μ-loop
+unfolding rule3
+returns c =
+    let called = c .before .before .before in
+    let l = called .before .before .before .loop in
+    let refused = sym (called .row-ok .ensures .0) ∙ not-true (called .row-ok .result) (c .if1 .taken) in
+    (sym (not-all-below _ _ (l .r) (omega arith) refused), λ e. absurd (false≢true e))
+
+add-r : tie.Need-add-r Inv-loop μ-loop
+add-r c = search needs
+
+loop-less : tie.Need-loop-less Inv-loop μ-loop
+loop-less c = search needs
+
+loop-again : tie.Need-loop-again Inv-loop μ-loop
+unfolding someBelow
+loop-again c =
+    let called = c .before .before .before in
+    let l = called .before .before .before .loop in
+    let passed = not-false (called .row-ok .result) (c .if1 .left) in (
+      omega arith,
+      all-more _ (l .r) (l .inv .1) (sym (called .row-ok .ensures .0) ∙ passed),
+      points-at-both (l .inv .2) (called .row-ok .ensures .1 .1 passed) (λ s h. rw add-one),
+    )
+
+same-length-2 : tie.Need-same-length-2 Inv-loop μ-loop
+same-length-2 c = search needs
+
+returns-2 : tie.Need-returns-2 Inv-loop μ-loop
+unfolding rule3
+returns-2 c =
+    let l = c .before .loop in
+    let t = c .before .before .before .before .before .args .t .now in
+    (sym (all-done _ (l .r) (rowCount t) (l .inv .1) (omega arith)), λ e. all-rows t (rowCount t) (l .r) (omega arith) (omega arith) (l .inv .2))
+
+pub rule3-spec : {M : Type 1} → statement M
+rule3-spec =
+    tie.close
+    (tie.spec
+    Inv-loop
+    μ-loop
+    row-count-requires
+    loop-holds
+    row-ok-requires
+    same-length
+    returns
+    add-r
+    loop-less
+    loop-again
+    same-length-2
+    returns-2)

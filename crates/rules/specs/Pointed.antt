@@ -1,0 +1,25 @@
+-- The array of the rows that are pointed at: number s is 1 where a row in use has row s as a target. Assumes nothing.
+use Prim.Native.Nat.{ℕ, _≤_, _<_}
+use mathlib.Core.Path.{_≡_}
+use mathlib.Core.Bool.{Bool, cond, _&&_}
+use mathlib.Core.List.{List}
+use lib.ListN.{length, getD}
+use Rattle.letters.specs.LetterSet.{flag}
+use Rattle.sets.specs.Below.{someBelow}
+use Rattle.rows.specs.Table.{Table, width, rowCount, inUse}
+use Rattle.rows.specs.Rules.{pointsAt, isTarget}
+
+-- the array after: 1 at the rows that pass the test, the others as before
+pub record Pointed (at : ℕ → Bool) (p q : List ℕ) : Type 0 where
+  pub long : length q ≡ length p
+  pub points : (s : ℕ) → 0 < s → getD q s 0 ≡ cond (at s) 1 (getD p s 0)
+
+-- the rows that the rows in use below n point at
+abbrev pub targetOfBelow : Table → ℕ → ℕ → Bool
+targetOfBelow t n s = someBelow n (λ r. inUse t r && pointsAt t r s)
+
+-- the array says of each row whether it is the target of a row in use
+pub record Targets (t : Table) (p : List ℕ) : Type 0 where
+  pub head : width ≤ length t
+  pub long : rowCount t ≤ length p
+  pub points : (s : ℕ) → 0 < s → getD p s 0 ≡ flag (isTarget t s)

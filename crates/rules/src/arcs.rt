@@ -1,0 +1,102 @@
+// Rule 3: "In a row in use every target is 0 or a row in use; the height is 0 if there is no target,
+// else one more than the greatest height among its targets, and at most 24; number 39 is 0." Where
+// it holds, the array says which rows are pointed at.
+use letters::LETTERS;
+use letters::LONGEST;
+use rows::height;
+use rows::in_use;
+use rows::last;
+use rows::row_count;
+use rows::target;
+ghost use Prim.Native.Nat.{_≤_, _<_, max};
+ghost use mathlib.Core.Path.{_≡_};
+ghost use mathlib.Core.Bool.{true, _&&_};
+ghost use lib.Dec.{eqb};
+ghost use lib.ListN.{length};
+ghost use Rattle.rows.specs.Table.{rowCount, inUse};
+ghost use Rattle.rows.specs.Rules.{ifUsed, arcsOk, pointsAt, rule3};
+ghost use Rattle.rules.specs.Asked.{asks};
+ghost use Rattle.rules.specs.Pointed.{Pointed, targetOfBelow};
+
+// What a target asks of the height of its row, or that it is neither 0 nor a row in use.
+pub enum Asked {
+    Height(usize),
+    Broken,
+}
+
+fn greater(a: usize, b: usize) -> usize
+    ensures { λ r. ⌜ r ≡ max a b ⌝ }
+{
+    if a < b { b } else { a }
+}
+
+// What the target asks; a row in use is marked as pointed at.
+fn follow(t: &[u16], n: usize, pointed: &mut [u16]) -> Asked
+    requires { ⌜ rowCount (now t) ≤ length (now pointed) ⌝ }
+    ensures asked { λ r. ⌜ r ≡ asks (now (t .entry)) n ⌝ }
+    ensures marked { λ r. ⌜ Pointed (λ s. inUse (now (t .entry)) n && eqb n s) (now (pointed .entry)) (now (pointed .exit)) ⌝ }
+{
+    if n == 0 {
+        return Asked::Height(0);
+    }
+    if !in_use(t, n) {
+        return Asked::Broken;
+    }
+    pointed[n] = 1;
+    Asked::Height(height(t, n) as usize + 1)
+}
+
+// One row in use.
+fn arcs_ok(t: &[u16], r: usize, pointed: &mut [u16]) -> bool
+    requires { ⌜ (r < rowCount (now t)) × (rowCount (now t) ≤ length (now pointed)) ⌝ }
+    ensures ok { λ b. ⌜ b ≡ arcsOk (now (t .entry)) r ⌝ }
+    ensures long { λ b. ⌜ length (now (pointed .exit)) ≡ length (now (pointed .entry)) ⌝ }
+    ensures marked { λ b. ⌜ (b ≡ true → Pointed (λ s. pointsAt (now (t .entry)) r s) (now (pointed .entry)) (now (pointed .exit))) ⌝ }
+{
+    let mut top = 0;
+    let mut x = 0;
+    while x < LETTERS {
+        let n = target(t, r, x) as usize;
+        let Asked::Height(h) = follow(t, n, pointed) else {
+            return false;
+        };
+        top = greater(top, h);
+        x += 1;
+    }
+    if height(t, r) as usize != top {
+        return false;
+    }
+    if LONGEST < top {
+        return false;
+    }
+    last(t, r) == 0
+}
+
+// One row.
+fn row_ok(t: &[u16], r: usize, pointed: &mut [u16]) -> bool
+    requires { ⌜ rowCount (now t) ≤ length (now pointed) ⌝ }
+    ensures ok { λ b. ⌜ b ≡ ifUsed (now (t .entry)) r (arcsOk (now (t .entry)) r) ⌝ }
+    ensures long { λ b. ⌜ length (now (pointed .exit)) ≡ length (now (pointed .entry)) ⌝ }
+    ensures marked { λ b. ⌜ (b ≡ true → Pointed (λ s. inUse (now (t .entry)) r && pointsAt (now (t .entry)) r s) (now (pointed .entry)) (now (pointed .exit))) ⌝ }
+{
+    if !in_use(t, r) {
+        return true;
+    }
+    arcs_ok(t, r, pointed)
+}
+
+pub fn rule3(t: &[u16], pointed: &mut [u16]) -> bool
+    requires { ⌜ rowCount (now t) ≤ length (now pointed) ⌝ }
+    ensures ok { λ b. ⌜ b ≡ rule3 (now (t .entry)) ⌝ }
+    ensures marked { λ b. ⌜ (b ≡ true → Pointed (λ s. targetOfBelow (now (t .entry)) (rowCount (now (t .entry))) s) (now (pointed .entry)) (now (pointed .exit))) ⌝ }
+{
+    let k = row_count(t);
+    let mut r = 1;
+    while r < k {
+        if !row_ok(t, r, pointed) {
+            return false;
+        }
+        r += 1;
+    }
+    true
+}

@@ -1,0 +1,55 @@
+// Rule 5: "Each row in use is a start or the target of a row in use." The array says which rows are
+// targets of rows in use.
+use rows::MISSIONS;
+use rows::in_use;
+use rows::row_count;
+use rows::start;
+ghost use Prim.Native.Nat.{_≤_};
+ghost use mathlib.Core.Path.{_≡_};
+ghost use lib.ListN.{length};
+ghost use Rattle.rows.specs.Table.{width};
+ghost use Rattle.rows.specs.Rules.{ifUsed, isStart, isPointed, rule5};
+ghost use Rattle.rules.specs.Pointed.{Targets};
+
+fn is_start(t: &[u16], r: usize) -> bool
+    requires { ⌜ width ≤ length (now t) ⌝ }
+    ensures { λ b. ⌜ b ≡ isStart (now (t .entry)) r ⌝ }
+{
+    let mut m = 0;
+    while m < MISSIONS {
+        if start(t, m) as usize == r {
+            return true;
+        }
+        m += 1;
+    }
+    false
+}
+
+// One row.
+fn is_pointed(t: &[u16], r: usize, pointed: &[u16]) -> bool
+    requires { ⌜ Targets (now t) (now pointed) ⌝ }
+    ensures { λ b. ⌜ b ≡ ifUsed (now (t .entry)) r (isPointed (now (t .entry)) r) ⌝ }
+{
+    if !in_use(t, r) {
+        return true;
+    }
+    if pointed[r] != 0 {
+        return true;
+    }
+    is_start(t, r)
+}
+
+pub fn rule5(t: &[u16], pointed: &[u16]) -> bool
+    requires { ⌜ Targets (now t) (now pointed) ⌝ }
+    ensures { λ b. ⌜ b ≡ rule5 (now (t .entry)) ⌝ }
+{
+    let k = row_count(t);
+    let mut r = 1;
+    while r < k {
+        if !is_pointed(t, r, pointed) {
+            return false;
+        }
+        r += 1;
+    }
+    true
+}

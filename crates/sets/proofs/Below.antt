@@ -1,0 +1,139 @@
+-- The laws of what is said of the numbers below n and of what they give: the tests pass at all of them, or at one; what stands in the list of
+-- what they give stands in what one of them gives, and lists of words that rise, one before the other, give a list that rises; the greatest is
+-- at least each, and at most what is at least each; and the list of one thing of each has them in their places. Assumes nothing.
+use Prim.Native.Nat.{ℕ, zero, suc, _≤_, _<_}
+use native.Mathlib.Omega.{arith}
+use native.Mathlib.Decide.{ℕ-discrete}
+use mathlib.Core.Path.{_≡_, refl, sym, _∙_}
+use mathlib.Core.Bool.{Bool, true, false, _&&_, or-true, and-eq-true-iff, false≢true}
+use mathlib.Core.Logic.{inl, inr}
+use mathlib.Core.List.{List, [], _∷_}
+use lib.Dec.{eqb, ltb}
+use lib.ListN.{length, getD, length-append, List·getD-append}
+use lib.Seq.{getD-at}
+use borrow.Author.Tests.{ltb-true, eqb-true, lt-ltb, eq-eqb}
+use Rattle.letters.specs.Each.{Each}
+use Rattle.letters.specs.Words.{Word, before}
+use Rattle.sets.specs.Below.{allBelow, someBelow, greatest, over, each}
+use Rattle.sets.specs.Sets.{Words, member, Rising}
+use Rattle.sets.proofs.Sets.{member-append, rising-append}
+use Rattle.sets.proofs.Membership.{either, In, each-append, nil-in, append-in, in-left, in-right}
+
+-- two tests that pass together are the same
+pub tests-agree : (a b : Bool) → (a ≡ true → b ≡ true) → (b ≡ true → a ≡ true) → a ≡ b
+tests-agree true b f g = sym (f refl)
+tests-agree false true f g = g refl
+tests-agree false false f g = refl
+
+module _ (test : ℕ → Bool) where
+  pub all-below : (n : ℕ) → allBelow n test ≡ true → (i : ℕ) → i < n → test i ≡ true
+  unfolding allBelow
+  all-below zero h i below = absurd (omega arith)
+  all-below (suc n) h i below =
+      let (rest, last) = and-eq-true-iff (allBelow n test) (test n) .0 h in
+      elim (ℕ-discrete i n) [ yes e ↦ rw e last | no e ↦ all-below n rest i (omega arith) ]
+
+  pub below-all : (n : ℕ) → ((i : ℕ) → i < n → test i ≡ true) → allBelow n test ≡ true
+  unfolding allBelow
+  below-all zero f = refl
+  below-all (suc n) f = rw (below-all n (λ i h. f i (omega arith)), f n (omega arith))
+
+  pub not-all-below : (n i : ℕ) → i < n → test i ≡ false → allBelow n test ≡ false
+  unfolding allBelow
+  not-all-below n i h e = go (allBelow n test) refl
+    where
+      go : (b : Bool) → allBelow n test ≡ b → allBelow n test ≡ false
+      go true d = absurd (false≢true (sym e ∙ all-below n d i h))
+      go false d = d
+
+  pub some-below : (n : ℕ) → someBelow n test ≡ true → (i : ℕ) × (i < n) × (test i ≡ true)
+  unfolding someBelow
+  some-below zero h = absurd (false≢true h)
+  some-below (suc n) h =
+      elim (either (someBelow n test) (test n) h) [
+        | inl d ↦ let (i, below, e) = some-below n d in (i, omega arith, e)
+        | inr e ↦ (n, omega arith, e)
+      ]
+
+  pub below-some : (n i : ℕ) → i < n → test i ≡ true → someBelow n test ≡ true
+  unfolding someBelow
+  below-some zero i h e = absurd (omega arith)
+  below-some (suc n) i h e =
+      elim (ℕ-discrete i n) [
+        | yes d ↦ let last : test n ≡ true = rw d at e in rw (last, or-true)
+        | no d ↦ rw (below-some n i (omega arith) e)
+      ]
+
+-- some number below n is this one, and passes the test
+pub some-at : (test : ℕ → Bool) (n x : ℕ) → someBelow n (λ i. eqb x i && test i) ≡ (ltb x n && test x)
+some-at test n x = tests-agree _ _ found there
+  where
+    found : someBelow n (λ i. eqb x i && test i) ≡ true → (ltb x n && test x) ≡ true
+    found e =
+        let (i, h, d) = some-below (λ i. eqb x i && test i) n e in
+        let (same, passes) = and-eq-true-iff (eqb x i) (test i) .0 d in
+        rw (eqb-true x i same, lt-ltb i n h) passes
+
+    there : (ltb x n && test x) ≡ true → someBelow n (λ i. eqb x i && test i) ≡ true
+    there e =
+        let (h, passes) = and-eq-true-iff (ltb x n) (test x) .0 e in
+        below-some (λ i. eqb x i && test i) n x (ltb-true x n h) (rw (eq-eqb x x refl) passes)
+
+module _ {A : Type 0} (given : ℕ → List A) {a : A} where
+  pub over-in : (n : ℕ) → In a (over n given) → (i : ℕ) × (i < n) × In a (given i)
+  unfolding over
+  over-in zero m = absurd (nil-in m)
+  over-in (suc n) m =
+      elim (append-in (over n given) m) [ inl j ↦ let (i, h, g) = over-in n j in (i, omega arith, g) | inr g ↦ (n, omega arith, g) ]
+
+  pub in-over : (n i : ℕ) → i < n → In a (given i) → In a (over n given)
+  unfolding over
+  in-over zero i h m = absurd (omega arith)
+  in-over (suc n) i h m =
+      elim (ℕ-discrete i n) [ yes e ↦ in-right (over n given) (rw e at m) | no e ↦ in-left (given n) (in-over n i (omega arith) m) ]
+
+module _ (given : ℕ → Words) where
+  pub member-over : (u : Word) (n : ℕ) → member u (over n given) ≡ someBelow n (λ i. member u (given i))
+  unfolding over someBelow member
+  member-over u zero = refl
+  member-over u (suc n) = rw (member-append, member-over u n)
+
+  pub rising-over : ((i : ℕ) → Rising (given i))
+      → ((i j : ℕ) (u v : Word) → i < j → member u (given i) ≡ true → member v (given j) ≡ true → before u v ≡ true)
+      → (n : ℕ) → Rising (over n given)
+  unfolding over
+  rising-over r f zero = tt
+  rising-over r f (suc n) =
+      rising-append (over n given) (given n) (rising-over r f n) (r n)
+      (λ u v m g. let (i, h, d) = some-below _ n (rw member-over at m) in f i n u v h d g)
+
+module _ (given : ℕ → ℕ) where
+  pub below-greatest : (n i : ℕ) → i < n → given i ≤ greatest n given
+  unfolding greatest
+  below-greatest zero i h = absurd (omega arith)
+  below-greatest (suc n) i h = elim (ℕ-discrete i n) [ yes e ↦ rw e (omega arith) | no e ↦ omega (arith, below-greatest n i (omega arith)) ]
+
+  pub greatest-least : (n top : ℕ) → ((i : ℕ) → i < n → given i ≤ top) → greatest n given ≤ top
+  unfolding greatest
+  greatest-least zero top f = omega arith
+  greatest-least (suc n) top f = omega (arith, greatest-least n top (λ i h. f i (omega arith)), f n (omega arith))
+
+module _ {A : Type 0} (given : ℕ → A) where
+  pub length-each : (n : ℕ) → length (each n given) ≡ n
+  unfolding over
+  length-each zero = refl
+  length-each (suc n) = simp (length-append, length-each n) (omega arith)
+
+  pub each-at : (n i : ℕ) (d : A) → i < n → getD (each n given) i d ≡ given i
+  unfolding over
+  each-at zero i d h = absurd (omega arith)
+  each-at (suc n) i d h =
+      elim (ℕ-discrete i n) [
+        | yes e ↦ rw e (getD-at (each n given) (given n) [] d n (length-each n))
+        | no e ↦ List·getD-append (each n given) (given n ∷ []) d i (rw (length-each n) (omega arith)) ∙ each-at n i d (omega arith)
+      ]
+
+  pub each-given : (P : A → Type 0) (n : ℕ) → ((i : ℕ) → i < n → P (given i)) → Each P (each n given)
+  unfolding over
+  each-given P zero f = tt
+  each-given P (suc n) f = each-append P (each n given) (given n ∷ []) (each-given P n (λ i h. f i (omega arith))) (f n (omega arith), tt)
