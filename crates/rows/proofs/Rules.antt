@@ -91,6 +91,9 @@ module _ (t : Table) where
       says-as (says-and (says-eq (length t % width) 0) (says-and (says-le leastRows (rowCount t)) (says-le (rowCount t) mostRows)))
       (λ f. (omega (arith, f), f .1 .0, f .1 .1)) (λ f. (omega (arith, f), (f .1, f .2)))
 
+  pub length-facts : lengthOk t ≡ true → (length t ≡ rowCount t * width) × (leastRows ≤ rowCount t) × (rowCount t ≤ mostRows)
+  length-facts = says-length .0
+
   -- 1. the head
   says-start : (n : ℕ) → Says (startOk t n) (0 < n → Used t n × (mark t n ≡ 1))
   says-start n = says-as (says-else (says-eq n 0) (says-and (says-row n) (says-eq (mark t n) 1))) there back

@@ -1,6 +1,6 @@
 -- What a loop over the numbers below n knows of its test: while it goes on, the test passed at every number so far, or at none of them; where
 -- it stops early, that number decides; and where it has passed n, all or none below n. Assumes nothing.
-use Prim.Native.Nat.{ℕ, _+_, _≤_, _<_}
+use Prim.Native.Nat.{ℕ, _+_, _≤_}
 use native.Mathlib.Numerals.{add-one}
 use native.Mathlib.Omega.{arith}
 use mathlib.Core.Path.{_≡_, refl, sym, _∙_}

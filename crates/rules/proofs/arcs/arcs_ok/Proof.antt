@@ -3,7 +3,7 @@
 -- decide. The measure is the letters that are left. Assumes nothing.
 use Prim.Native.Nat.{ℕ, _+_, _-_, _≤_, _<_, max}
 use mathlib.Core.Path.{_≡_, refl, sym, _∙_}
-use mathlib.Core.Bool.{Bool, true, false, _&&_, _||_, false≢true}
+use mathlib.Core.Bool.{Bool, true, false, _&&_, _||_, false≢true, and-false}
 use mathlib.Core.List.{List}
 use native.Mathlib.Numerals.{add-one}
 use native.Mathlib.Omega.{arith}
@@ -150,17 +150,19 @@ same-length-2 : tie.Need-same-length-2 Inv-loop μ-loop
 same-length-2 c = search needs
 
 returns-2 : tie.Need-returns-2 Inv-loop μ-loop
-returns-2 c = (rw (left (c .before), ne-eqb _ _ (c .if1 .taken)), (omega arith, λ e. absurd (false≢true e)))
+returns-2 c =
+    let called = c .before in
+    let differ = ne-eqb (called .height .result) (called .before .before .loop .top) (λ e. omega arith) in
+    (rw (left called, differ), (omega arith, λ e. absurd (false≢true e)))
 
 same-length-3 : tie.Need-same-length-3 Inv-loop μ-loop
 same-length-3 c = search needs
 
 returns-3 : tie.Need-returns-3 Inv-loop μ-loop
 returns-3 c =
-    let called = c .before .before in (
-      rw (left called, eq-eqb _ _ (c .before .if1 .left), lt-leb (called .height .result) longest (omega arith)),
-      (omega arith, λ e. absurd (false≢true e)),
-    )
+    let called = c .before .before in
+    let high = lt-leb (called .height .result) longest (omega arith) in
+    (rw (left called, high, and-false), (omega arith, λ e. absurd (false≢true e)))
 
 last-requires : tie.Need-last-requires Inv-loop μ-loop
 last-requires c κs = search needs
@@ -170,10 +172,10 @@ same-length-4 c = search needs
 
 returns-4 : tie.Need-returns-4 Inv-loop μ-loop
 returns-4 c =
-    let called = c .before .before .before in (
-      rw (left called, eq-eqb _ _ (c .before .before .if1 .left), le-leb (called .height .result) longest (omega arith), c .last .ensures),
-      (omega arith, λ e. all-followed (called .before) .points),
-    )
+    let called = c .before .before .before in
+    let same = eq-eqb (called .height .result) (called .before .before .loop .top) (omega arith) in
+    let low = le-leb (called .height .result) longest (omega arith) in
+    (rw (left called, same, low, c .last .ensures), (omega arith, λ e. all-followed (called .before) .points))
 
 pub arcs-ok-spec : {M : Type 1} → statement M
 arcs-ok-spec =

@@ -1,25 +1,21 @@
 -- `sound` meets its promise: the branches settle the tests of a sound book one after the other, and each leaves the tests behind it.
 -- Assumes nothing.
-use Prim.Native.Nat.{_≤_, _%_}
+use Prim.Native.Nat.{_≤_}
 use mathlib.Core.Path.{_≡_, sym, _∙_}
-use mathlib.Core.Bool.{Bool, true, _&&_, and-eq-true-iff}
+use mathlib.Core.Bool.{Bool, true, _&&_}
 use native.Mathlib.Omega.{arith}
 use borrow.Author.Needs.{needs}
-use borrow.Author.Tests.{not-true, not-false, leb-true}
-use lib.Dec.{eqb, leb}
+use borrow.Author.Tests.{not-true, not-false}
 use lib.ListN.{length}
-use Rattle.rows.specs.Table.{Table, width, rowCount, leastRows, mostRows, lengthOk}
+use Rattle.rows.specs.Table.{Table, width, rowCount, mostRows, lengthOk}
 use Rattle.rows.specs.Rules.{rule1, rule2, rule3, rule4, rule5, rule6, rule7, sound}
+use Rattle.rows.proofs.Rules.{length-facts}
 use Rattle.rules.proofs.Writes.{targets-from-zeros}
 use Rattle.rules.proofs.book.sound.Statement.{statement}
 use Rattle.rules.proofs.book.sound.Tie as tie
 
 whole-rows : (t : Table) → lengthOk t ≡ true → (width ≤ length t) × (rowCount t ≤ mostRows)
-unfolding lengthOk
-whole-rows t e =
-    let (_, rows) = and-eq-true-iff (eqb (length t % width) 0) (leb leastRows (rowCount t) && leb (rowCount t) mostRows) .0 e in
-    let (least, most) = and-eq-true-iff (leb leastRows (rowCount t)) (leb (rowCount t) mostRows) .0 rows in
-    (omega (arith, leb-true leastRows (rowCount t) least), leb-true (rowCount t) mostRows most)
+whole-rows t e = let (whole, least, most) = length-facts t e in (omega arith, most)
 
 -- the tests from one rule on
 abbrev from6 : Table → Bool

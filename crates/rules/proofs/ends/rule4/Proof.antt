@@ -1,23 +1,19 @@
 -- `rule4` meets its promise. The loop's invariant: the rows below `r` pass. The measure is the rows that are left. Assumes nothing.
-use Prim.Native.Nat.{ℕ, _-_, _<_}
+use Prim.Native.Nat.{_-_}
 use mathlib.Core.Path.{_≡_, sym, _∙_}
-use mathlib.Core.Bool.{Bool, true}
+use mathlib.Core.Bool.{true}
 use native.Mathlib.Omega.{arith}
 use borrow.Author.Needs.{needs}
 use borrow.Author.Tests.{not-true, not-false}
 use Rattle.sets.specs.Below.{allBelow}
 use Rattle.sets.proofs.Below.{not-all-below}
-use Rattle.rows.specs.Table.{Table, rowCount}
 use Rattle.rows.specs.Rules.{ifUsed, endOk, rule4}
 use Rattle.rules.proofs.Loops.{all-more, all-done}
 use Rattle.rules.proofs.ends.rule4.Statement.{statement}
 use Rattle.rules.proofs.ends.rule4.Tie as tie
 
-abbrev fine : Table → ℕ → Bool
-fine t r = ifUsed t r (endOk t r)
-
 abbrev Inv-loop : tie.InvT-loop
-Inv-loop t k r₀ r = (0 < r) × (k ≡ rowCount t) × (allBelow r (fine t) ≡ true)
+Inv-loop t k r₀ r = allBelow r (λ s. ifUsed t s (endOk t s)) ≡ true
 
 abbrev μ-loop : tie.MeasureT-loop
 μ-loop t k r₀ r = k - r
@@ -30,16 +26,14 @@ unfolding allBelow
 loop-holds c = search needs
 
 end-ok-requires : tie.Need-end-ok-requires Inv-loop μ-loop
-end-ok-requires c κs = c .before .before .before .before .pre
+end-ok-requires c κs = search needs
 
 returns : tie.Need-returns Inv-loop μ-loop
 unfolding rule4
 returns c =
-    let at-call = c .before in
-    let l = at-call .before .before .loop in
-    let t = at-call .before .before .before .before .before .args .t .now in
-    let refused = sym (at-call .end-ok .ensures) ∙ not-true (at-call .end-ok .result) (c .if1 .taken) in
-    sym (not-all-below (fine t) (rowCount t) (l .r) (omega arith) refused)
+    let called = c .before in
+    sym (not-all-below _ _ (called .before .before .loop .r) (omega arith)
+    (sym (called .end-ok .ensures) ∙ not-true (called .end-ok .result) (c .if1 .taken)))
 
 add-r : tie.Need-add-r Inv-loop μ-loop
 add-r c = search needs
@@ -49,18 +43,13 @@ loop-less c = search needs
 
 loop-again : tie.Need-loop-again Inv-loop μ-loop
 loop-again c =
-    let at-call = c .before in
-    let l = at-call .before .before .loop in
-    let t = at-call .before .before .before .before .before .args .t .now in
-    let passed = sym (at-call .end-ok .ensures) ∙ not-false (at-call .end-ok .result) (c .if1 .left) in
-    (omega arith, l .inv .1, all-more (fine t) (l .r) (l .inv .2) passed)
+    let called = c .before in
+    let l = called .before .before .loop in
+    all-more _ (l .r) (l .inv) (sym (called .end-ok .ensures) ∙ not-false (called .end-ok .result) (c .if1 .left))
 
 returns-2 : tie.Need-returns-2 Inv-loop μ-loop
 unfolding rule4
-returns-2 c =
-    let l = c .before .loop in
-    let t = c .before .before .before .before .args .t .now in
-    sym (all-done (fine t) (l .r) (rowCount t) (l .inv .2) (omega arith))
+returns-2 c = sym (all-done _ (c .before .loop .r) _ (c .before .loop .inv) (omega arith))
 
 pub rule4-spec : {M : Type 1} → statement M
 rule4-spec =

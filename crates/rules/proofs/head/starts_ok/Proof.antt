@@ -1,5 +1,5 @@
 -- `starts_ok` meets its promise. The loop's invariant: the starts below `m` pass. The measure is the missions that are left. Assumes nothing.
-use Prim.Native.Nat.{ℕ, _-_, _≤_}
+use Prim.Native.Nat.{ℕ, _-_}
 use mathlib.Core.Path.{_≡_, sym, _∙_}
 use mathlib.Core.Bool.{Bool, true}
 use native.Mathlib.Omega.{arith}

@@ -1,5 +1,5 @@
 -- `is_zeros` meets its promise. The loop's invariant: the row's numbers below `i` are 0. The measure is what is left of the row. Assumes nothing.
-use Prim.Native.Nat.{ℕ, _+_, _*_, _-_, _≤_}
+use Prim.Native.Nat.{ℕ, _+_, _*_, _-_}
 use mathlib.Core.Path.{_≡_, sym}
 use mathlib.Core.Bool.{Bool, true}
 use native.Mathlib.Omega.{arith}

@@ -54,7 +54,7 @@ shared-slice-read-if2 c = omega (arith, inside (c .before))
 returns-2 : tie.Need-returns-2
 returns-2 c =
     let there = c .before .before in
-    rw (used there, said-some (there .before .before .before .before .pre) _ (inside there .positive) (c .if2 .taken), or-true)
+    rw (used there, said-some (there .before .before .before .before .pre) _ (inside there .positive) (λ e. omega arith), or-true)
 
 is-start-requires : tie.Need-is-start-requires
 is-start-requires c κs = search needs
@@ -62,7 +62,7 @@ is-start-requires c κs = search needs
 returns-3 : tie.Need-returns-3
 returns-3 c =
     let there = c .before .before .before in
-    rw (used there, said-none (there .before .before .before .before .pre) _ (inside there .positive) (c .before .if2 .left), or-false)
+    rw (used there, said-none (there .before .before .before .before .pre) _ (inside there .positive) (omega arith), or-false)
     (c .is-start .ensures)
 
 pub is-pointed-spec : {M : Type 1} → statement M

@@ -1,7 +1,7 @@
 -- `is_start` meets its promise. The loop's invariant: no mission below `m` starts at the row. The measure is the missions that are left.
 -- Assumes nothing.
 use Prim.Native.Nat.{_-_}
-use mathlib.Core.Path.{_≡_, sym, _∙_}
+use mathlib.Core.Path.{_≡_, sym}
 use mathlib.Core.Bool.{false}
 use native.Mathlib.Omega.{arith}
 use borrow.Author.Needs.{needs}
@@ -33,8 +33,9 @@ cast-if1 c = search needs
 
 returns : tie.Need-returns Inv-loop μ-loop
 returns c =
-    let called = c .before in
-    sym (below-some _ missions (called .before .before .loop .m) (omega arith) (eq-eqb _ _ (sym (called .start .ensures) ∙ c .if1 .taken)))
+    let l = c .before .before .before .loop in
+    let args = c .before .before .before .before .before .args in
+    sym (below-some _ missions (l .m) (omega arith) (eq-eqb (start (args .t .now) (l .m)) (args .r) (omega arith)))
 
 add-m : tie.Need-add-m Inv-loop μ-loop
 add-m c = search needs
@@ -44,9 +45,9 @@ loop-less c = search needs
 
 loop-again : tie.Need-loop-again Inv-loop μ-loop
 loop-again c =
-    let called = c .before in
-    let l = called .before .before .loop in
-    none-more _ (l .m) (l .inv) (ne-eqb _ _ (λ e. c .if1 .left (called .start .ensures ∙ e)))
+    let l = c .before .before .before .loop in
+    let args = c .before .before .before .before .before .args in
+    none-more _ (l .m) (l .inv) (ne-eqb (start (args .t .now) (l .m)) (args .r) (λ e. omega arith))
 
 returns-2 : tie.Need-returns-2 Inv-loop μ-loop
 returns-2 c = sym (none-done _ (c .before .loop .m) missions (c .before .loop .inv) (omega arith))

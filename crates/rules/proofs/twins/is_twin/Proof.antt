@@ -1,8 +1,9 @@
 -- `is_twin` meets its promise: a row with the mark of a row in use is in use, and rows in use of different heights have different targets.
 -- Assumes nothing.
 use Prim.Native.Nat.{ℕ, _<_}
-use mathlib.Core.Path.{_≡_, refl, sym, _∙_}
+use mathlib.Core.Path.{_≡_, refl}
 use mathlib.Core.Bool.{Bool, true, false, and-false, and-eq-true-iff}
+use native.Mathlib.Omega.{arith}
 use borrow.Author.Tests.{eq-eqb, ne-eqb}
 use lib.Dec.{eqb, ltb}
 use Rattle.letters.specs.Letters.{letters}
@@ -29,18 +30,14 @@ module _ (t : Table) (r s : ℕ) (other : inUse t s ≡ true) where
       go true e = absurd (differ (same-height t holds r s used other e))
       go false e = e
 
--- the two rows are inside the table
-first : (c : tie.Start) → c .args .r < rowCount (c .args .t .now)
-first c = row-inside (c .args .t .now) _ (c .pre .2) .1
+inside : (c : tie.Start) → (c .args .r < rowCount (c .args .t .now)) × (c .args .s < rowCount (c .args .t .now))
+inside c = (row-inside (c .args .t .now) _ (c .pre .2) .1, in-use-used (c .args .t .now) _ (c .pre .1) .inside)
 
-second : (c : tie.Start) → c .args .s < rowCount (c .args .t .now)
-second c = in-use-used (c .args .t .now) _ (c .pre .1) .inside
-
--- once their marks are the same
+-- behind the first test
 marks : (c : tie.Else1) →
     let args = c .before .before .before .before .args in
     mark (args .t .now) (args .r) ≡ mark (args .t .now) (args .s)
-marks c = sym (c .before .before .mark .ensures) ∙ c .if1 .left ∙ c .before .mark2 .ensures
+marks c = omega arith
 
 used : (c : tie.Else1) → inUse (c .before .before .before .before .args .t .now) (c .before .before .before .before .args .r) ≡ true
 used c =
@@ -48,32 +45,33 @@ used c =
     same-mark-used (begin .args .t .now) _ _ (begin .pre .1) (begin .pre .2) (marks c)
 
 mark-requires : tie.Need-mark-requires
-mark-requires c κs = first (c .before)
+mark-requires c κs = omega (arith, inside (c .before))
 
 mark-requires-2 : tie.Need-mark-requires-2
-mark-requires-2 c κs = second (c .before .before)
+mark-requires-2 c κs = omega (arith, inside (c .before .before))
 
 returns : tie.Need-returns
 returns c =
-    rw (ne-eqb _ _ (λ e. c .if1 .taken (c .before .before .mark .ensures ∙ e ∙ sym (c .before .mark2 .ensures))), and-false)
+    let args = c .before .before .before .before .args in
+    let differ = ne-eqb (mark (args .t .now) (args .r)) (mark (args .t .now) (args .s)) (λ e. omega arith) in
+    rw (differ, and-false)
 
 height-requires : tie.Need-height-requires
-height-requires c κs = first (c .before .before .before .before)
+height-requires c κs = omega (arith, inside (c .before .before .before .before))
 
 height-requires-2 : tie.Need-height-requires-2
-height-requires-2 c κs = second (c .before .before .before .before .before)
+height-requires-2 c κs = omega (arith, inside (c .before .before .before .before .before))
 
 returns-2 : tie.Need-returns-2
 returns-2 c =
     let there = c .before .before .before in
     let begin = there .before .before .before .before in
-    let other = other-targets (begin .args .t .now) _ _ (begin .pre .1) (begin .pre .0) (used there) in
-    rw (used there, other (λ e. c .if2 .taken (c .before .before .height .ensures ∙ e ∙ sym (c .before .height2 .ensures))), and-false)
+    let args = begin .args in
+    let other = other-targets (args .t .now) (args .r) (args .s) (begin .pre .1) (begin .pre .0) (used there) (λ e. omega arith) in
+    rw (used there, other, and-false)
 
 same-targets-requires : tie.Need-same-targets-requires
-same-targets-requires c κs =
-    let begin = c .before .before .before .before .before .before .before in
-    (first begin, second begin)
+same-targets-requires c κs = omega (arith, inside (c .before .before .before .before .before .before .before))
 
 returns-3 : tie.Need-returns-3
 returns-3 c =

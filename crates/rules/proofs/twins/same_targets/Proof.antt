@@ -1,7 +1,7 @@
 -- `same_targets` meets its promise. The loop's invariant: the rows have the same target at every letter below `x`. The measure is the letters
 -- that are left. Assumes nothing.
 use Prim.Native.Nat.{_-_}
-use mathlib.Core.Path.{_≡_, sym, _∙_}
+use mathlib.Core.Path.{_≡_, sym}
 use mathlib.Core.Bool.{true}
 use native.Mathlib.Omega.{arith}
 use borrow.Author.Needs.{needs}
@@ -33,10 +33,10 @@ target-requires-2 c κs = search needs
 
 returns : tie.Need-returns Inv-loop μ-loop
 returns c =
-    let called = c .before .before in
-    let l = called .before .before .loop in
-    sym (not-all-below _ letters (l .x) (omega arith)
-    (ne-eqb _ _ (λ e. c .if1 .taken (called .target .ensures ∙ e ∙ sym (c .before .target2 .ensures)))))
+    let l = c .before .before .before .before .loop in
+    let args = c .before .before .before .before .before .before .args in
+    let differ = ne-eqb (target (args .t .now) (args .r) (l .x)) (target (args .t .now) (args .s) (l .x)) (λ e. omega arith) in
+    sym (not-all-below _ letters (l .x) (omega arith) differ)
 
 add-x : tie.Need-add-x Inv-loop μ-loop
 add-x c = search needs
@@ -46,9 +46,10 @@ loop-less c = search needs
 
 loop-again : tie.Need-loop-again Inv-loop μ-loop
 loop-again c =
-    let called = c .before .before in
-    let l = called .before .before .loop in
-    all-more _ (l .x) (l .inv) (eq-eqb _ _ (sym (called .target .ensures) ∙ c .if1 .left ∙ c .before .target2 .ensures))
+    let l = c .before .before .before .before .loop in
+    let args = c .before .before .before .before .before .before .args in
+    let same = eq-eqb (target (args .t .now) (args .r) (l .x)) (target (args .t .now) (args .s) (l .x)) (omega arith) in
+    all-more _ (l .x) (l .inv) same
 
 returns-2 : tie.Need-returns-2 Inv-loop μ-loop
 returns-2 c = sym (all-done _ (c .before .loop .x) letters (c .before .loop .inv) (omega arith))
