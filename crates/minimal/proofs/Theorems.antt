@@ -1,23 +1,29 @@
--- What is promised of the rows of a book: they are exactly the states that its lists need, no automaton has fewer, and which rows hold them is
--- all that is free. The proofs are put together here from those of the other files. Assumes nothing.
-use Prim.Native.Nat.{ℕ, _≤_}
+-- What is promised of the rows of a book: they are exactly the states that its lists need, no automaton has fewer, which rows hold them is all
+-- that is free, and the walk answers as the plain sets do. The proofs are put together here from those of the other files. Assumes nothing.
+use Prim.Native.Nat.{ℕ, _≤_, _<_}
 use mathlib.Core.Path.{_≡_}
 use mathlib.Core.Bool.{true, or-false}
 use mathlib.Core.List.{List, [], _∷_}
 use lib.ListN.{length}
+use Rattle.letters.specs.Each.{Each}
+use Rattle.letters.specs.Letters.{letters}
+use Rattle.letters.specs.Words.{Word, Spelled, bytesOf}
+use Rattle.letters.specs.Names.{isName}
 use Rattle.letters.specs.LetterSet.{countOf}
-use Rattle.sets.specs.Sets.{Words}
+use Rattle.sets.specs.Sets.{Words, member, Plain}
 use Rattle.sets.specs.Residuals.{need}
 use Rattle.sets.specs.Automata.{size, Theorem5, Minimal}
 use Rattle.sets.proofs.Served.{none-fewer}
-use Rattle.rows.specs.Table.{Table, rowCount, starts, usedRows}
+use Rattle.model.specs.Lists.{missions, listOf, mayFollow}
+use Rattle.rows.specs.Table.{Table, rowCount, start, starts, usedRows}
+use Rattle.rows.specs.Walk.{accepts, follows}
 use Rattle.rows.specs.Words.{words, lists}
 use Rattle.rows.specs.Rules.{sound}
 use Rattle.rows.specs.Tidy.{Used, Named, Tidy}
 use Rattle.rows.specs.Reach.{reaches, reached}
 use Rattle.rows.specs.Growth.{Useful}
 use Rattle.rows.proofs.Rules.{sound-facts, facts-sound}
-use Rattle.rows.proofs.Books.{lists-plain, starts-named, sound-reached}
+use Rattle.rows.proofs.Books.{lists-sixteen, lists-plain, lists-names, starts-named, ask-plain, next-plain, sound-reached}
 use Rattle.minimal.specs.Book.{automaton}
 use Rattle.minimal.specs.Places.{OneToOne}
 use Rattle.minimal.specs.Renumbered.{Renumbered}
@@ -80,3 +86,17 @@ renumbered-same t u by e = let (facts, same) = renumbered-sound t u by (sound-fa
 -- Sound books of one length with the same lists differ in nothing but the order of their state rows.
 pub same-lists-renumbered : (t u : Table) → sound t ≡ true → sound u ≡ true → length u ≡ length t → lists u ≡ lists t → Renumbered t u
 same-lists-renumbered t u d e = matched-renumbered t u (sound-facts t d) (sound-facts u e)
+
+-- The lists of a sound book are sixteen rising lists of names.
+pub sound-lists : (t : Table) → sound t ≡ true → (length (lists t) ≡ missions) × Each Plain (lists t) × Each (Each (λ w. isName (bytesOf w) ≡ true)) (lists t)
+sound-lists t e = (lists-sixteen t, lists-plain t, lists-names t (sound-facts t e .tidy))
+
+-- On a sound book ask and next give the plain set answers: the walk of a word accepts exactly the names of the list, and a letter is reported
+-- exactly if some name of the list goes on with it.
+pub sound-ask : (t : Table) → sound t ≡ true → (m : ℕ) → m < missions → (w : Word) → Spelled w
+    → accepts t w (start t m) ≡ member w (listOf (lists t) m)
+sound-ask t e = ask-plain t (sound-facts t e .tidy)
+
+pub sound-next : (t : Table) → sound t ≡ true → (m : ℕ) → m < missions → (u : Word) → Spelled u → (x : ℕ) → x < letters
+    → follows t u (start t m) x ≡ mayFollow u (listOf (lists t) m) x
+sound-next t e = next-plain t (sound-facts t e .tidy)
