@@ -2,7 +2,7 @@
 -- behind another points at the rows of both. An array that was zeros then says which rows are pointed at. Assumes nothing.
 use Prim.Native.Nat.{ℕ, zero, suc, _≤_, _<_}
 use mathlib.Core.Path.{_≡_, refl, sym, _∙_}
-use mathlib.Core.Bool.{Bool, true, false, cond, _||_}
+use mathlib.Core.Bool.{Bool, true, false, cond, _||_, false≢true}
 use mathlib.Core.List.{List}
 use native.Mathlib.Decide.{ℕ-discrete}
 use borrow.Author.Tests.{eq-eqb, ne-eqb}
@@ -10,7 +10,7 @@ use lib.Dec.{eqb}
 use lib.ListN.{length, getD, set, replicate, length-set, length-replicate}
 use lib.Seq.{getD-set-same, getD-set-other}
 use Rattle.rows.specs.Table.{Table, width, rowCount}
-use Rattle.rules.specs.Pointed.{Pointed, targetOfBelow, Targets}
+use Rattle.rules.specs.Pointed.{Pointed, Tested, targetOfBelow, Targets}
 
 pub points-nowhere : {at : ℕ → Bool} {p : List ℕ} → ((s : ℕ) → at s ≡ false) → Pointed at p p
 points-nowhere none = record { long = refl; points = λ s h. rw (none s) }
@@ -38,6 +38,10 @@ points-at-both {first} {second} {both} {p} {q} {r} one two same =
     go true true n = refl
     go true false n = refl
     go false b n = refl
+
+-- a test that fails says nothing of the rows that the array points at
+pub not-passed : {rule : Bool} {at : ℕ → Bool} {p q : List ℕ} → false ≡ rule → length q ≡ length p → Tested rule at p q false
+not-passed e long = record { says = e; long = long; points = λ d. absurd (false≢true d) }
 
 zeros : (n s : ℕ) → _≡_ {A = ℕ} (getD (replicate n 0) s 0) 0
 zeros zero s = refl

@@ -1,7 +1,7 @@
 -- The array of the rows that are pointed at: number s is 1 where a row in use has row s as a target. Assumes nothing.
 use Prim.Native.Nat.{ℕ, _≤_, _<_}
 use mathlib.Core.Path.{_≡_}
-use mathlib.Core.Bool.{Bool, cond, _&&_}
+use mathlib.Core.Bool.{Bool, true, cond, _&&_}
 use mathlib.Core.List.{List}
 use lib.ListN.{length, getD}
 use Rattle.letters.specs.LetterSet.{flag}
@@ -14,9 +14,18 @@ pub record Pointed (at : ℕ → Bool) (p q : List ℕ) : Type 0 where
   pub long : length q ≡ length p
   pub points : (s : ℕ) → 0 < s → getD q s 0 ≡ cond (at s) 1 (getD p s 0)
 
--- the rows that the rows in use below n point at
+-- what a test answers that marks the array on the way: what the rule says and, where it holds, the array after
+pub record Tested (rule : Bool) (at : ℕ → Bool) (p q : List ℕ) (answer : Bool) : Type 0 where
+  pub says : answer ≡ rule
+  pub long : length q ≡ length p
+  pub points : answer ≡ true → Pointed at p q
+
+-- row r, if it is in use, has row s as a target; and some row below n has
+abbrev pub pointsFrom : Table → ℕ → ℕ → Bool
+pointsFrom t r s = inUse t r && pointsAt t r s
+
 abbrev pub targetOfBelow : Table → ℕ → ℕ → Bool
-targetOfBelow t n s = someBelow n (λ r. inUse t r && pointsAt t r s)
+targetOfBelow t n s = someBelow n (λ r. pointsFrom t r s)
 
 -- the array says of each row whether it is the target of a row in use
 pub record Targets (t : Table) (p : List ℕ) : Type 0 where

@@ -10,13 +10,13 @@ use rows::row_count;
 use rows::target;
 ghost use Prim.Native.Nat.{_≤_, _<_, max};
 ghost use mathlib.Core.Path.{_≡_};
-ghost use mathlib.Core.Bool.{true, _&&_};
+ghost use mathlib.Core.Bool.{_&&_};
 ghost use lib.Dec.{eqb};
 ghost use lib.ListN.{length};
 ghost use Rattle.rows.specs.Table.{rowCount, inUse};
-ghost use Rattle.rows.specs.Rules.{ifUsed, arcsOk, pointsAt, rule3};
+ghost use Rattle.rows.specs.Rules.{ifUsed, arcsOk, pointsAt, isTarget, rule3};
 ghost use Rattle.rules.specs.Asked.{asks};
-ghost use Rattle.rules.specs.Pointed.{Pointed, targetOfBelow};
+ghost use Rattle.rules.specs.Pointed.{Pointed, Tested, pointsFrom};
 
 // What a target asks of the height of its row, or that it is neither 0 nor a row in use.
 pub enum Asked {
@@ -49,9 +49,7 @@ fn follow(t: &[u16], n: usize, pointed: &mut [u16]) -> Asked
 // One row in use.
 fn arcs_ok(t: &[u16], r: usize, pointed: &mut [u16]) -> bool
     requires { ⌜ (r < rowCount (now t)) × (rowCount (now t) ≤ length (now pointed)) ⌝ }
-    ensures ok { λ b. ⌜ b ≡ arcsOk (now (t .entry)) r ⌝ }
-    ensures long { λ b. ⌜ length (now (pointed .exit)) ≡ length (now (pointed .entry)) ⌝ }
-    ensures marked { λ b. ⌜ (b ≡ true → Pointed (λ s. pointsAt (now (t .entry)) r s) (now (pointed .entry)) (now (pointed .exit))) ⌝ }
+    ensures { λ b. ⌜ Tested (arcsOk (now (t .entry)) r) (λ s. pointsAt (now (t .entry)) r s) (now (pointed .entry)) (now (pointed .exit)) b ⌝ }
 {
     let mut top = 0;
     let mut x = 0;
@@ -75,9 +73,7 @@ fn arcs_ok(t: &[u16], r: usize, pointed: &mut [u16]) -> bool
 // One row.
 fn row_ok(t: &[u16], r: usize, pointed: &mut [u16]) -> bool
     requires { ⌜ rowCount (now t) ≤ length (now pointed) ⌝ }
-    ensures ok { λ b. ⌜ b ≡ ifUsed (now (t .entry)) r (arcsOk (now (t .entry)) r) ⌝ }
-    ensures long { λ b. ⌜ length (now (pointed .exit)) ≡ length (now (pointed .entry)) ⌝ }
-    ensures marked { λ b. ⌜ (b ≡ true → Pointed (λ s. inUse (now (t .entry)) r && pointsAt (now (t .entry)) r s) (now (pointed .entry)) (now (pointed .exit))) ⌝ }
+    ensures { λ b. ⌜ Tested (ifUsed (now (t .entry)) r (arcsOk (now (t .entry)) r)) (λ s. pointsFrom (now (t .entry)) r s) (now (pointed .entry)) (now (pointed .exit)) b ⌝ }
 {
     if !in_use(t, r) {
         return true;
@@ -87,8 +83,7 @@ fn row_ok(t: &[u16], r: usize, pointed: &mut [u16]) -> bool
 
 pub fn rule3(t: &[u16], pointed: &mut [u16]) -> bool
     requires { ⌜ rowCount (now t) ≤ length (now pointed) ⌝ }
-    ensures ok { λ b. ⌜ b ≡ rule3 (now (t .entry)) ⌝ }
-    ensures marked { λ b. ⌜ (b ≡ true → Pointed (λ s. targetOfBelow (now (t .entry)) (rowCount (now (t .entry))) s) (now (pointed .entry)) (now (pointed .exit))) ⌝ }
+    ensures { λ b. ⌜ Tested (rule3 (now (t .entry))) (λ s. isTarget (now (t .entry)) s) (now (pointed .entry)) (now (pointed .exit)) b ⌝ }
 {
     let k = row_count(t);
     let mut r = 1;

@@ -3,7 +3,7 @@
 -- decide. The measure is the letters that are left. Assumes nothing.
 use Prim.Native.Nat.{ℕ, _+_, _-_, _≤_, _<_, max}
 use mathlib.Core.Path.{_≡_, refl, sym, _∙_}
-use mathlib.Core.Bool.{Bool, true, false, _&&_, _||_, false≢true, and-false}
+use mathlib.Core.Bool.{Bool, true, false, _&&_, _||_, and-false}
 use mathlib.Core.List.{List}
 use native.Mathlib.Numerals.{add-one}
 use native.Mathlib.Omega.{arith}
@@ -21,7 +21,7 @@ use Rattle.rules.specs.declared.arcs.Asked.the-variants.{Height, Broken}
 use Rattle.rules.specs.Asked.{asksIf, asks}
 use Rattle.rules.specs.Pointed.{Pointed}
 use Rattle.rules.proofs.Loops.{all-more}
-use Rattle.rules.proofs.Writes.{points-nowhere, points-at-both}
+use Rattle.rules.proofs.Writes.{points-nowhere, points-at-both, not-passed}
 use Rattle.rules.proofs.arcs.arcs_ok.Statement.{statement}
 use Rattle.rules.proofs.arcs.arcs_ok.Tie as tie
 
@@ -100,11 +100,9 @@ returns c =
     let called = c .before .before .before .before in
     let there = called .before .before in
     let l = there .before .before .loop in
-    let args = there .before .before .before .before .before .args in (
-      sym (arcs-broken (args .t .now) (args .r) (l .x) _ (omega arith) (there .target .ensures)
-          (sym (called .follow .ensures .0) ∙ c .enum-told .given .1)),
-      (omega arith, λ e. absurd (false≢true e)),
-    )
+    let args = there .before .before .before .before .before .args in
+    let broken = sym (called .follow .ensures .0) ∙ c .enum-told .given .1 in
+    not-passed (sym (arcs-broken (args .t .now) (args .r) (l .x) _ (omega arith) (there .target .ensures) broken)) (omega arith)
 
 greater-requires : tie.Need-greater-requires Inv-loop μ-loop
 greater-requires c κs = search needs
@@ -153,7 +151,7 @@ returns-2 : tie.Need-returns-2 Inv-loop μ-loop
 returns-2 c =
     let called = c .before in
     let differ = ne-eqb (called .height .result) (called .before .before .loop .top) (λ e. omega arith) in
-    (rw (left called, differ), (omega arith, λ e. absurd (false≢true e)))
+    not-passed (rw (left called, differ)) (omega arith)
 
 same-length-3 : tie.Need-same-length-3 Inv-loop μ-loop
 same-length-3 c = search needs
@@ -162,7 +160,7 @@ returns-3 : tie.Need-returns-3 Inv-loop μ-loop
 returns-3 c =
     let called = c .before .before in
     let high = lt-leb (called .height .result) longest (omega arith) in
-    (rw (left called, high, and-false), (omega arith, λ e. absurd (false≢true e)))
+    not-passed (rw (left called, high, and-false)) (omega arith)
 
 last-requires : tie.Need-last-requires Inv-loop μ-loop
 last-requires c κs = search needs
@@ -175,7 +173,11 @@ returns-4 c =
     let called = c .before .before .before in
     let same = eq-eqb (called .height .result) (called .before .before .loop .top) (omega arith) in
     let low = le-leb (called .height .result) longest (omega arith) in
-    (rw (left called, same, low, c .last .ensures), (omega arith, λ e. all-followed (called .before) .points))
+    record {
+      says = rw (left called, same, low, c .last .ensures);
+      long = omega arith;
+      points = λ _. all-followed (called .before) .points;
+    }
 
 pub arcs-ok-spec : {M : Type 1} → statement M
 arcs-ok-spec =

@@ -18,7 +18,7 @@ in-use-requires c κs = search needs
 returns : tie.Need-returns
 returns c =
     let free = sym (c .before .in-use .ensures) ∙ not-true _ (c .if1 .taken) in
-    rw free (refl, (refl, λ e. points-nowhere (λ s. refl)))
+    rw free (record { says = refl; long = refl; points = λ e. points-nowhere (λ s. refl) })
 
 arcs-ok-requires : tie.Need-arcs-ok-requires
 arcs-ok-requires c κs = (in-use-used (c .before .before .before .before .before .args .t .now) _ (used (c .before)) .inside, search needs)

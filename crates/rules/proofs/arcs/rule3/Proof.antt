@@ -2,7 +2,7 @@
 -- are left. Assumes nothing.
 use Prim.Native.Nat.{ℕ, _-_, _≤_, max}
 use mathlib.Core.Path.{_≡_, refl, sym, _∙_}
-use mathlib.Core.Bool.{true, false≢true}
+use mathlib.Core.Bool.{true}
 use mathlib.Core.List.{List}
 use native.Mathlib.Decide.{ℕ-discrete}
 use native.Mathlib.Numerals.{add-one}
@@ -15,7 +15,7 @@ use Rattle.rows.specs.Table.{Table, rowCount}
 use Rattle.rows.specs.Rules.{ifUsed, arcsOk, rule3}
 use Rattle.rules.specs.Pointed.{Pointed, targetOfBelow}
 use Rattle.rules.proofs.Loops.{all-more, all-done}
-use Rattle.rules.proofs.Writes.{points-nowhere, points-at-both}
+use Rattle.rules.proofs.Writes.{points-nowhere, points-at-both, not-passed}
 use Rattle.rules.proofs.arcs.rule3.Statement.{statement}
 use Rattle.rules.proofs.arcs.rule3.Tie as tie
 
@@ -57,8 +57,8 @@ unfolding rule3
 returns c =
     let called = c .before .before .before in
     let l = called .before .before .before .loop in
-    let refused = sym (called .row-ok .ensures .0) ∙ not-true (called .row-ok .result) (c .if1 .taken) in
-    (sym (not-all-below _ _ (l .r) (omega arith) refused), λ e. absurd (false≢true e))
+    let refused = sym (called .row-ok .ensures .says) ∙ not-true (called .row-ok .result) (c .if1 .taken) in
+    not-passed (sym (not-all-below _ _ (l .r) (omega arith) refused)) (omega arith)
 
 add-r : tie.Need-add-r Inv-loop μ-loop
 add-r c = search needs
@@ -73,8 +73,8 @@ loop-again c =
     let l = called .before .before .before .loop in
     let passed = not-false (called .row-ok .result) (c .if1 .left) in (
       omega arith,
-      all-more _ (l .r) (l .inv .1) (sym (called .row-ok .ensures .0) ∙ passed),
-      points-at-both (l .inv .2) (called .row-ok .ensures .1 .1 passed) (λ s h. rw add-one),
+      all-more _ (l .r) (l .inv .1) (sym (called .row-ok .ensures .says) ∙ passed),
+      points-at-both (l .inv .2) (called .row-ok .ensures .points passed) (λ s h. rw add-one),
     )
 
 same-length-2 : tie.Need-same-length-2 Inv-loop μ-loop
@@ -85,7 +85,11 @@ unfolding rule3
 returns-2 c =
     let l = c .before .loop in
     let t = c .before .before .before .before .before .args .t .now in
-    (sym (all-done _ (l .r) (rowCount t) (l .inv .1) (omega arith)), λ e. all-rows t (rowCount t) (l .r) (omega arith) (omega arith) (l .inv .2))
+    record {
+      says = sym (all-done _ (l .r) (rowCount t) (l .inv .1) (omega arith));
+      long = l .inv .2 .long;
+      points = λ _. all-rows t (rowCount t) (l .r) (omega arith) (omega arith) (l .inv .2);
+    }
 
 pub rule3-spec : {M : Type 1} → statement M
 rule3-spec =

@@ -62,7 +62,7 @@ at-rule3 : (c : tie.After-rule3) →
     sound t ≡ (c .rule3 .result && from4 t)
 at-rule3 c =
     let so-far = c .before .before .before in
-    at-rule2 so-far ∙ rw (not-false (so-far .rule2 .result) (c .before .before .if3 .left), c .rule3 .ensures .0)
+    at-rule2 so-far ∙ rw (not-false (so-far .rule2 .result) (c .before .before .if3 .left), c .rule3 .ensures .says)
 
 at-rule4 : (c : tie.After-rule4) →
     let third = c .before .before .before in
@@ -94,7 +94,7 @@ length-fine c = sym (c .before .length-ok .ensures) ∙ not-false _ (c .if1 .lef
 third-holds : (c : tie.Else4) →
     let third = c .before .before in
     rule3 (third .before .before .before .before .before .before .before .before .before .args .t .now) ≡ true
-third-holds c = sym (c .before .before .rule3 .ensures .0) ∙ not-false _ (c .if4 .left)
+third-holds c = sym (c .before .before .rule3 .ensures .says) ∙ not-false _ (c .if4 .left)
 
 length-ok-requires : tie.Need-length-ok-requires
 length-ok-requires c κs = search needs
@@ -140,7 +140,7 @@ rule5-requires c κs =
     let called = passed .before .before in
     let fine = called .before .before .before .before .before .before in
     let (whole, inside) = whole-rows (fine .before .before .before .args .t .now) (length-fine fine) in
-    targets-from-zeros _ whole inside (called .rule3 .ensures .1 (not-false _ (passed .if4 .left)))
+    targets-from-zeros _ whole inside (called .rule3 .ensures .points (not-false _ (passed .if4 .left)))
 
 returns-6 : tie.Need-returns-6
 returns-6 c = sym (at-rule5 (c .before) ∙ rw (not-true (c .before .rule5 .result) (c .if6 .taken)))
