@@ -1,4 +1,4 @@
--- What is said of every part of a list: as a test, and as a fact. Assumes nothing.
+-- What is said of every part of a list, as a test and as a fact, and of some part. Assumes nothing.
 use mathlib.Core.Bool.{Bool, true, false, _&&_, _||_}
 use mathlib.Core.List.{List, [], _∷_}
 

@@ -3,27 +3,27 @@
 -- many rows are in use in both, so equally many are free. Rows that belong together are each other's only ones, have the same mark, by the
 -- empty word, and their targets belong together, for these have what is left of the same words; so the heights are the same from below
 -- upwards. Free rows are forty zeros. Assumes nothing.
-use Prim.Native.Nat.{ℕ, _*_, _+_, _≤_, _<_}
+use Prim.Native.Nat.{ℕ, _≤_, _<_}
 use native.Mathlib.Omega.{arith}
 use native.Mathlib.Decide.{ℕ-discrete, decLt}
 use mathlib.Core.Path.{_≡_, refl, sym, _∙_, ap}
 use mathlib.Core.Bool.{Bool, true, false, not, false≢true}
 use mathlib.Core.Logic.{_⊎_, inl, inr}
-use lib.ListN.{length, getD}
+use lib.ListN.{length}
 use borrow.Author.Tests.{ltb-false, not-true}
 use Rattle.letters.specs.LetterSet.{countOf}
 use Rattle.letters.specs.Letters.{letters}
 use Rattle.sets.specs.Residuals.{after, need}
-use Rattle.rows.specs.Table.{Table, width, rowCount, isRow, start, mark, height, target, last, inUse}
+use Rattle.rows.specs.Table.{Table, rowCount, isRow, start, mark, height, target, last, inUse}
 use Rattle.rows.specs.Tidy.{Used, Named, Arc, Tidy, Sound}
 use Rattle.rows.specs.Words.{words, lists}
 use Rattle.rows.proofs.Facts.{row-inside, inside-row, in-use-used, used-in-use, named-cases, target-named, by-height}
+use Rattle.rows.proofs.Cells.{free-height, free-target, free-last}
 use Rattle.rows.proofs.Words.{words-target, mark-word, has-word, filled-used, same-words}
 use Rattle.rows.proofs.Books.{list-names}
 use Rattle.minimal.specs.Renumbered.{Renumbered}
 use Rattle.minimal.proofs.Counting.{count-less, count-apart, count-met, count-rest}
 use Rattle.minimal.proofs.Places.{used-in-states, states-used, used-rows-need}
-use Rattle.minimal.proofs.Renumbering.{free-cell, free-target}
 
 -- a free row, or 0
 record Free (t : Table) (r : ℕ) : Type 0 where
@@ -119,27 +119,26 @@ module _ (t u : Table) (tidy : Tidy t) (neat : Tidy u) where
       rw (free-target t tidy r row (free-mark t r row p) x h, free-target u neat s there (free-mark u s there q) x h) none-matched
 
 module _ (t u : Table) (tidy : Tidy t) (neat : Tidy u) (r s : ℕ) (row : isRow t r ≡ true) where
-  -- what is the same where the rows have the same words is the same where they belong together: free rows are forty zeros
-  matched-cell : (i : ℕ) → i < width → (Used t r → Used u s → words t r ≡ words u s → getD u (s * width + i) 0 ≡ getD t (r * width + i) 0)
-      → Matched t u r s → getD u (s * width + i) 0 ≡ getD t (r * width + i) 0
-  matched-cell i h same (used p q e) = same p q e
-  matched-cell i h same (free p q e) =
+  -- a number of a row that is 0 in a free row is the same in rows that belong together, if it is the same where they have the same words
+  matched-number : (number : Table → ℕ → ℕ)
+      → ((t : Table) → Tidy t → (r : ℕ) → isRow t r ≡ true → mark t r ≡ 0 → number t r ≡ 0)
+      → (Used t r → Used u s → words t r ≡ words u s → number u s ≡ number t r) → Matched t u r s → number u s ≡ number t r
+  matched-number number zero same (used p q e) = same p q e
+  matched-number number zero same (free p q e) =
       let there = matched-row t u tidy neat r s (free p q e) row in
-      free-cell u neat s there (free-mark u s there q) i h ∙ sym (free-cell t tidy r row (free-mark t r row p) i h)
+      zero u neat s there (free-mark u s there q) ∙ sym (zero t tidy r row (free-mark t r row p))
 
   matched-mark : Matched t u r s → mark u s ≡ mark t r
-  matched-mark (used p q e) = mark-word u neat s q ∙ sym (rw e at (mark-word t tidy r p))
-  matched-mark (free p q e) =
-      let there = matched-row t u tidy neat r s (free p q e) row in
-      free-mark u s there q ∙ sym (free-mark t r row p)
+  matched-mark =
+      matched-number mark (λ t tidy r row e. e) (λ p q e. mark-word u neat s q ∙ sym (rw e at (mark-word t tidy r p)))
 
   matched-height : Matched t u r s → height u s ≡ height t r
   matched-height =
-      matched-cell 1 (omega arith)
+      matched-number height free-height
       (λ p q e. omega (arith, no-higher t u tidy neat r s p q e, no-higher u t neat tidy s r q p (sym e)))
 
   matched-last : Matched t u r s → last u s ≡ last t r
-  matched-last = matched-cell 39 (omega arith) (λ p q e. neat .lasts s q ∙ sym (tidy .lasts r p))
+  matched-last = matched-number last free-last (λ p q e. neat .lasts s q ∙ sym (tidy .lasts r p))
 
 -- a row of u for each of t
 record Across (t u : Table) : Type 0 where

@@ -1,62 +1,34 @@
 -- A renumbering of a sound book is a sound book with the same lists. Every state row of u is the row `to r` of a state row r of t, and its
--- forty numbers are those of r with the targets carried along; so each rule is carried over row by row, and the words, made of marks and
--- targets, are the same by recursion on their length. So the words of each row of u are left of t's lists, and u has no more rows in use than
--- these need. Assumes nothing.
-use Prim.Native.Nat.{ℕ, zero, suc, _+_, _-_, _*_, _≤_, _<_}
+-- forty numbers are those of r with the targets carried along; so each rule is carried over row by row, and a walk goes the same way, so the
+-- words are the same. So the words of each row of u are left of t's lists, and u has no more rows in use than these need. Assumes nothing.
+use Prim.Native.Nat.{ℕ, _+_, _*_, _≤_, _<_}
 use native.Mathlib.Omega.{arith}
-use native.Mathlib.Nat.{add-zero}
 use native.Mathlib.Decide.{ℕ-discrete}
-use mathlib.Core.Path.{_≡_, refl, sym, _∙_, ap}
+use mathlib.Core.Path.{_≡_, sym, _∙_, ap}
 use mathlib.Core.Bool.{true, cond}
 use mathlib.Core.Logic.{inl, inr}
-use mathlib.Core.List.{List, [], _∷_, _++_}
-use lib.Dec.{eqb}
+use mathlib.Core.List.{[], _∷_}
 use lib.ListN.{getD, length}
 use lib.Seq.{ext-getD}
 use Rattle.letters.specs.Letters.{letters}
+use Rattle.letters.specs.Words.{Word, Spelled}
 use Rattle.letters.specs.Names.{longest}
-use Rattle.sets.specs.Below.{over}
 use Rattle.sets.specs.Residuals.{states}
 use Rattle.sets.proofs.Membership.{In}
+use Rattle.sets.proofs.Sets.{plain-ext}
 use Rattle.model.specs.Lists.{missions}
 use Rattle.rows.specs.Table.{Table, width, isRow, start, mark, height, target, last, room, usedRows}
+use Rattle.rows.specs.Walk.{accepts}
+use Rattle.rows.specs.Words.{words, lists}
 use Rattle.rows.specs.Tidy.{Used, Named, Arc, Tidy, Pointed, Sound}
-use Rattle.rows.specs.Words.{behind, shortWords, words, lists}
 use Rattle.rows.specs.Growth.{Useful}
-use Rattle.rows.proofs.Facts.{row-inside, inside-row, used-row, named-cases, target-named}
+use Rattle.rows.proofs.Facts.{row-inside, inside-row, no-row, used-row, named-cases, target-named}
+use Rattle.rows.proofs.Cells.{forty, free-height, free-target, free-last}
+use Rattle.rows.proofs.Walk.{none-accepted, accepts-empty, accepts-step}
+use Rattle.rows.proofs.Words.{words-plain, member-words}
 use Rattle.rows.proofs.Books.{lists-sixteen, list-names}
 use Rattle.minimal.specs.Renumbered.{Renumbered}
 use Rattle.minimal.proofs.Places.{used-in-states, used-rows-need, useful-rows}
-
-over-same : {A : Type 0} (given other : ℕ → List A) (n : ℕ) → ((i : ℕ) → i < n → given i ≡ other i) → over n given ≡ over n other
-unfolding over
-over-same given other zero f = refl
-over-same given other (suc n) f = rw (over-same given other n (λ i h. f i (omega arith)), f n (omega arith))
-
--- what holds of the mark, the height, the targets and the last number holds of all forty numbers of a row
-forty : (t : Table) (r : ℕ) (P : ℕ → Type 0) → P (mark t r) → P (height t r) → ((x : ℕ) → x < letters → P (target t r x)) → P (last t r)
-    → (i : ℕ) → i < width → P (getD t (r * width + i) 0)
-forty t r P m h ts l i below =
-    elim (ℕ-discrete i 0) [
-      | yes e ↦ rw (e, add-zero) m
-      | no none ↦ elim (ℕ-discrete i 1) [
-        | yes e ↦ rw e h
-        | no one ↦ elim (ℕ-discrete i 39) [
-          | yes e ↦ rw e l
-          | no end ↦ let e : r * width + i ≡ r * width + 2 + (i - 2) = omega arith in rw e (ts (i - 2) (omega arith))
-        ]
-      ]
-    ]
-
--- "a free row is forty zeros"
-module _ (t : Table) (tidy : Tidy t) (r : ℕ) (row : isRow t r ≡ true) (e : mark t r ≡ 0) where
-  pub free-cell : (i : ℕ) → i < width → getD t (r * width + i) 0 ≡ 0
-  free-cell i h = let (positive, inside) = row-inside t r row in tidy .zeros r i positive inside e h
-
-  pub free-target : (x : ℕ) → x < letters → target t r x ≡ 0
-  free-target x h =
-      let same : r * width + 2 + x ≡ r * width + (2 + x) = omega arith in
-      rw same (free-cell (2 + x) (omega arith))
 
 module _ (t u : Table) (by : Renumbered t u) where
   abbrev to : ℕ → ℕ
@@ -122,9 +94,9 @@ module _ (t u : Table) (by : Renumbered t u) where
     to-zeros : (r : ℕ) → isRow t r ≡ true → mark u (to r) ≡ 0 → (i : ℕ) → i < width → getD u (to r * width + i) 0 ≡ 0
     to-zeros r row e =
         let free : mark t r ≡ 0 = sym (by .marks r row) ∙ e in
-        forty u (to r) (λ n. n ≡ 0) e (by .heights r row ∙ free-cell t tidy r row free 1 (omega arith))
+        forty u (to r) (λ n. n ≡ 0) e (by .heights r row ∙ free-height t tidy r row free)
         (λ x h. by .targets r x row h ∙ (ap (by .to) (free-target t tidy r row free x h) ∙ by .none))
-        (by .lasts r row ∙ free-cell t tidy r row free 39 (omega arith))
+        (by .lasts r row ∙ free-last t tidy r row free)
 
     -- rows of u "agree in mark and all 37 targets"
     abbrev Alike : ℕ → ℕ → Type 0
@@ -175,19 +147,34 @@ module _ (t u : Table) (by : Renumbered t u) where
         go (inl (m, h, e)) = inl (m, h, by .starts m h ∙ ap (by .to) e)
         go (inr (q, x, a, e)) = inr (to q, x, arc-to a, to-target (a .used) (a .letter) ∙ ap (by .to) e)
 
-    to-words : (most n : ℕ) → Named t n → shortWords most u (to n) ≡ shortWords most t n
-    unfolding shortWords
-    to-words zero n named = refl
-    to-words (suc most) n named =
+    to-named : (n : ℕ) → Named t n → Named u (to n)
+    to-named n named some = to-used (named (to-some n some))
+
+    -- a walk goes the same way
+    nowhere-to : (w : Word) (n : ℕ) → n ≡ 0 → accepts u w (to n) ≡ accepts t w n
+    nowhere-to w n e = rw (none-accepted t n (no-row t n e) w) (none-accepted u (to n) (no-row u (to n) (rw e (by .none))) w)
+
+    to-accepts : (w : Word) → Spelled w → (n : ℕ) → Named t n → accepts u w (to n) ≡ accepts t w n
+    to-accepts [] g n named =
+        elim (named-cases named) [
+          | inl p ↦ let row = used-row p in rw (accepts-empty u (to n), accepts-empty t n, by .to-row n row, by .marks n row, row)
+          | inr e ↦ nowhere-to [] n e
+        ]
+    to-accepts (x ∷ w) g n named =
         elim (named-cases named) [
           | inl p ↦
               let row = used-row p in
-              let rest : (x : ℕ) → x < letters → shortWords most u (target u (to n) x) ≡ shortWords most t (target t n x) =
-              λ x h. rw (to-target p h) (to-words most (target t n x) (target-named t tidy n x p h)) in
-              rw (by .to-row n row, row, by .marks n row)
-              (ap (λ l. cond (eqb (mark t n) 2) ([] ∷ []) [] ++ l) (over-same _ _ letters (λ x h. ap (behind x) (rest x h))))
-          | inr e ↦ rw (e, by .none)
+              rw (accepts-step t n row x w, accepts-step u (to n) (by .to-row n row) x w, to-target p (g .0))
+              (to-accepts w (g .1) (target t n x) (target-named t tidy n x p (g .0)))
+          | inr e ↦ nowhere-to (x ∷ w) n e
         ]
+
+    to-words : (n : ℕ) → Named t n → words u (to n) ≡ words t n
+    to-words n named =
+        plain-ext (words u (to n)) (words t n) (words-plain u (to n)) (words-plain t n)
+        (λ w g.
+        member-words u to-tidy w g (to n) (to-named n named)
+        ∙ (to-accepts w g n named ∙ sym (member-words t tidy w g n named)))
 
     to-lists : lists u ≡ lists t
     to-lists = ext-getD [] (lists u) (lists t) (lists-sixteen u ∙ sym (lists-sixteen t)) names-same
@@ -196,14 +183,14 @@ module _ (t u : Table) (by : Renumbered t u) where
         names-same m h =
             let below : m < missions = omega (arith, lists-sixteen u) in
             list-names u m below
-            ∙ (rw (by .starts m below) (to-words (suc longest) (start t m) (λ p. tidy .starts m below p .0)) ∙ sym (list-names t m below))
+            ∙ (rw (by .starts m below) (to-words (start t m) (λ p. tidy .starts m below p .0)) ∙ sym (list-names t m below))
 
 pub renumbered-sound : (t u : Table) → Renumbered t u → Sound t → Sound u × (lists u ≡ lists t)
 renumbered-sound t u by facts =
     let tidy = facts .tidy in
     let useful : Useful (lists t) u =
     each-used t u by (λ s. In (words u s) (states (lists t)))
-    (λ r p. rw (to-words t u by tidy (suc longest) r (λ _. p)) (used-in-states t facts r p))
+    (λ r p. rw (to-words t u by tidy r (λ _. p)) (used-in-states t facts r p))
     in
     let used = useful-rows u (to-tidy t u by tidy) (lists t) useful in
     let fits : usedRows u ≤ room u = omega (arith, used-rows-need t facts) in

@@ -1,5 +1,6 @@
 -- The laws of the table, for every layer above: nobody above looks into a row. Assumes nothing.
 pub mod Facts
+pub mod Cells
 pub mod Rules
 pub mod Walk
 pub mod Words

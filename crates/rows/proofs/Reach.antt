@@ -79,9 +79,6 @@ module _ (t : Table) where
       pub reaches-all : (n : ℕ) → Named t n → (Used t n → P n) → (s : ℕ) → reaches t n s ≡ true → P s
       reaches-all n = all-reached (suc longest) n
 
-    pub reaches-used : (n s : ℕ) → Named t n → reaches t n s ≡ true → Used t s
-    reaches-used n s named = reaches-all (λ r. Used t r) (λ r x a u. tidy .targets r x a) n named (λ u. u) s
-
     module _ (roots : List ℕ) (named : Each (Named t) roots) where
       pub reached-root : (r : ℕ) → In r roots → Used t r → reachedFrom t roots r ≡ true
       reached-root r i u = in-some (λ n. reaches t n r) i (reaches-self r u)

@@ -15,7 +15,7 @@ unfoldable pub reachesIn : ℕ → Table → ℕ → ℕ → Bool
 reachesIn zero t n s = false
 reachesIn (suc most) t n s = isRow t n && (eqb n s || someBelow letters (λ x. reachesIn most t (target t n x) s))
 
--- no way has more arcs than the longest name has letters
+-- by at most as many arcs as the longest name has letters; in a tidy table no way has more
 abbrev pub reaches : Table → ℕ → ℕ → Bool
 reaches t n s = reachesIn (suc longest) t n s
 

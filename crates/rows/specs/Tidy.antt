@@ -25,7 +25,9 @@ pub record Arc (t : Table) (r x : ℕ) : Type 0 where
   pub letter : x < letters
   pub there : 0 < target t r x
 
+-- rules 1 to 4 and 6
 pub record Tidy (t : Table) : Type 0 where
+  -- the length is "40k with k from 27 to 1,026"
   pub whole : length t ≡ rowCount t * width
   pub least : leastRows ≤ rowCount t
   pub most : rowCount t ≤ mostRows
@@ -50,6 +52,7 @@ pub record Tidy (t : Table) : Type 0 where
 abbrev pub Pointed : Table → ℕ → Type 0
 Pointed t r = ((m : ℕ) × (m < missions) × (start t m ≡ r)) ⊎ ((s : ℕ) × (x : ℕ) × Arc t s x × (target t s x ≡ r))
 
+-- all seven
 pub record Sound (t : Table) : Type 0 where
   pub tidy : Tidy t
   pub pointed : (r : ℕ) → Used t r → Pointed t r

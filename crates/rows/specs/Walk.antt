@@ -15,7 +15,7 @@ unfoldable pub walk : Table → Word → ℕ → Walk
 walk t [] r = record { row = r; left = [] }
 walk t (x ∷ w) r = cond (isRow t (target t r x)) (walk t w (target t r x)) (record { row = 0; left = x ∷ w })
 
--- from any number
+-- from any number: "A start or target of 0 or over k-1 is no row."
 unfoldable pub walkFrom : Table → Word → ℕ → Walk
 walkFrom t w n = cond (isRow t n) (walk t w n) (record { row = 0; left = w })
 
@@ -23,6 +23,6 @@ walkFrom t w n = cond (isRow t n) (walk t w n) (record { row = 0; left = w })
 abbrev pub accepts : Table → Word → ℕ → Bool
 accepts t w n = ends t (walkFrom t w n .row)
 
--- "next reports each letter whose target is a row."
+-- "next reports each letter whose target is a row." "A prefix that leads nowhere gives 0 and 0."
 abbrev pub follows : Table → Word → ℕ → ℕ → Bool
 follows t w n x = isRow t (walkFrom t w n .row) && isRow t (target t (walkFrom t w n .row) x)

@@ -22,7 +22,7 @@ unfoldable pub shortWords : ℕ → Table → ℕ → Words
 shortWords zero t n = []
 shortWords (suc most) t n = cond (isRow t n) (rowWords t n (λ s. shortWords most t s)) []
 
--- no word has more letters than the longest name
+-- of at most as many letters as the longest name; from the rows of a tidy table there are no others
 abbrev pub words : Table → ℕ → Words
 words t n = shortWords (suc longest) t n
 

@@ -5,7 +5,6 @@ mod fill;
 mod table;
 
 pub use fill::fill_with_zeros;
-pub use table::LEAST_ROWS;
 pub use table::MISSIONS;
 pub use table::MOST_ROWS;
 pub use table::WIDTH;

@@ -10,7 +10,7 @@ ghost use Rattle.rows.specs.Table.{rowCount, lengthOk, room, isRow, star
 pub const WIDTH: usize = 40;
 
 // A table has 27 to 1,026 rows.
-pub const LEAST_ROWS: usize = 27;
+const LEAST_ROWS: usize = 27;
 
 pub const MOST_ROWS: usize = 1026;
 
@@ -62,7 +62,7 @@ pub fn is_row(t: &[u16], n: usize) -> bool
     n < row_count(t)
 }
 
-// The start of a mission.
+// "number m, for m from 0 to 15, is the start row of mission m, or 0 if its list is empty".
 pub fn start(t: &[u16], m: usize) -> u16
     requires { ⌜ m < length (now t) ⌝ }
     ensures { λ r. ⌜ r ≡ start (now (t .entry)) m ⌝ }
@@ -70,7 +70,7 @@ pub fn start(t: &[u16], m: usize) -> u16
     t[m]
 }
 
-// The mark of a row: 0 free, 1 in use, 2 in use and a name may end here.
+// "number 0 is the mark (0 free, 1 in use, 2 in use and a name may end here)".
 pub fn mark(t: &[u16], r: usize) -> u16
     requires { ⌜ r < rowCount (now t) ⌝ }
     ensures { λ n. ⌜ n ≡ mark (now (t .entry)) r ⌝ }
@@ -78,7 +78,7 @@ pub fn mark(t: &[u16], r: usize) -> u16
     t[r * WIDTH]
 }
 
-// The height of a row.
+// "Number 1 is the height: the length of the longest word accepted from here."
 pub fn height(t: &[u16], r: usize) -> u16
     requires { ⌜ r < rowCount (now t) ⌝ }
     ensures { λ n. ⌜ n ≡ height (now (t .entry)) r ⌝ }
@@ -86,7 +86,7 @@ pub fn height(t: &[u16], r: usize) -> u16
     t[r * WIDTH + 1]
 }
 
-// The target of a row for a letter.
+// "Number 2+x is the target row for letter x, or 0 for none."
 pub fn target(t: &[u16], r: usize, x: usize) -> u16
     requires { ⌜ (r < rowCount (now t)) × (x < letters) ⌝ }
     ensures { λ n. ⌜ n ≡ target (now (t .entry)) r x ⌝ }
@@ -94,7 +94,7 @@ pub fn target(t: &[u16], r: usize, x: usize) -> u16
     t[r * WIDTH + 2 + x]
 }
 
-// Number 39 of a row.
+// "Number 39 is 0."
 pub fn last(t: &[u16], r: usize) -> u16
     requires { ⌜ r < rowCount (now t) ⌝ }
     ensures { λ n. ⌜ n ≡ last (now (t .entry)) r ⌝ }

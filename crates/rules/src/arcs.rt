@@ -70,7 +70,7 @@ fn arcs_ok(t: &[u16], r: usize, pointed: &mut [u16]) -> bool
     last(t, r) == 0
 }
 
-// One row.
+// One row: a free one passes.
 fn row_ok(t: &[u16], r: usize, pointed: &mut [u16]) -> bool
     requires { ⌜ rowCount (now t) ≤ length (now pointed) ⌝ }
     ensures { λ b. ⌜ Tested (ifUsed (now (t .entry)) r (arcsOk (now (t .entry)) r)) (λ s. pointsFrom (now (t .entry)) r s) (now (pointed .entry)) (now (pointed .exit)) b ⌝ }

@@ -8,7 +8,7 @@ ghost use mathlib.Core.Path.{_≡_};
 ghost use mathlib.Core.Bool.{true};
 ghost use Rattle.rows.specs.Rules.{ifUsed, endOk, rule3, rule4};
 
-// One row.
+// One row: a free one passes.
 fn end_ok(t: &[u16], r: usize) -> bool
     requires { ⌜ rule3 (now t) ≡ true ⌝ }
     ensures { λ b. ⌜ b ≡ ifUsed (now (t .entry)) r (endOk (now (t .entry)) r) ⌝ }

@@ -25,7 +25,7 @@ fn is_start(t: &[u16], r: usize) -> bool
     false
 }
 
-// One row.
+// One row: a free one passes.
 fn is_pointed(t: &[u16], r: usize, pointed: &[u16]) -> bool
     requires { ⌜ Targets (now t) (now pointed) ⌝ }
     ensures { λ b. ⌜ b ≡ ifUsed (now (t .entry)) r (isPointed (now (t .entry)) r) ⌝ }

@@ -60,7 +60,7 @@ fn has_twin(t: &[u16], s: usize) -> bool
     false
 }
 
-// One row.
+// One row: a free one passes.
 fn no_twin(t: &[u16], s: usize) -> bool
     requires { ⌜ rule3 (now t) ≡ true ⌝ }
     ensures { λ b. ⌜ b ≡ ifUsed (now (t .entry)) s (not (hasTwin (now (t .entry)) s)) ⌝ }

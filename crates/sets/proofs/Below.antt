@@ -39,7 +39,6 @@ module _ (test : ℕ → Bool) where
   below-all (suc n) f = rw (below-all n (λ i h. f i (omega arith)), f n (omega arith))
 
   pub not-all-below : (n i : ℕ) → i < n → test i ≡ false → allBelow n test ≡ false
-  unfolding allBelow
   not-all-below n i h e = go (allBelow n test) refl
     where
       go : (b : Bool) → allBelow n test ≡ b → allBelow n test ≡ false
