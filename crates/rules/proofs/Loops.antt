@@ -3,9 +3,10 @@
 use Prim.Native.Nat.{ℕ, _+_, _≤_}
 use native.Mathlib.Numerals.{add-one}
 use native.Mathlib.Omega.{arith}
-use mathlib.Core.Path.{_≡_, refl, sym, _∙_}
+use mathlib.Core.Path.{_≡_, sym, _∙_}
 use mathlib.Core.Bool.{Bool, true, false, false≢true}
 use Rattle.sets.specs.Below.{allBelow, someBelow}
+use Rattle.sets.proofs.Membership.{fails}
 use Rattle.sets.proofs.Below.{all-below, below-all, some-below, below-some}
 
 module _ (test : ℕ → Bool) (i : ℕ) where
@@ -21,8 +22,5 @@ module _ (test : ℕ → Bool) (i : ℕ) where
   none-more before now = rw (add-one, before, now)
 
   pub none-done : (n : ℕ) → someBelow i test ≡ false → n ≤ i → someBelow n test ≡ false
-  none-done n before h = go (someBelow n test) refl
-    where
-      go : (b : Bool) → someBelow n test ≡ b → someBelow n test ≡ false
-      go true e = let (j, below, d) = some-below test n e in absurd (false≢true (sym before ∙ below-some test i j (omega arith) d))
-      go false e = e
+  none-done n before h =
+      fails (someBelow n test) (λ e. let (j, below, d) = some-below test n e in false≢true (sym before ∙ below-some test i j (omega arith) d))

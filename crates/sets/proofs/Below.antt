@@ -17,7 +17,7 @@ use Rattle.letters.specs.Words.{Word, before}
 use Rattle.sets.specs.Below.{allBelow, someBelow, greatest, over, each}
 use Rattle.sets.specs.Sets.{Words, member, Rising}
 use Rattle.sets.proofs.Sets.{member-append, rising-append}
-use Rattle.sets.proofs.Membership.{either, In, each-append, nil-in, append-in, in-left, in-right}
+use Rattle.sets.proofs.Membership.{either, fails, In, each-append, nil-in, append-in, in-left, in-right}
 
 -- two tests that pass together are the same
 pub tests-agree : (a b : Bool) → (a ≡ true → b ≡ true) → (b ≡ true → a ≡ true) → a ≡ b
@@ -39,11 +39,7 @@ module _ (test : ℕ → Bool) where
   below-all (suc n) f = rw (below-all n (λ i h. f i (omega arith)), f n (omega arith))
 
   pub not-all-below : (n i : ℕ) → i < n → test i ≡ false → allBelow n test ≡ false
-  not-all-below n i h e = go (allBelow n test) refl
-    where
-      go : (b : Bool) → allBelow n test ≡ b → allBelow n test ≡ false
-      go true d = absurd (false≢true (sym e ∙ all-below n d i h))
-      go false d = d
+  not-all-below n i h e = fails (allBelow n test) (λ d. false≢true (sym e ∙ all-below n d i h))
 
   pub some-below : (n : ℕ) → someBelow n test ≡ true → (i : ℕ) × (i < n) × (test i ≡ true)
   unfolding someBelow

@@ -23,10 +23,14 @@ abbrev pub Apart : {A : Type 0} → List A → Type 0
 Apart [] = Unit {0}
 Apart (a ∷ l) = (In a l → ⊥) × Apart l
 
--- of two tests one passes
+-- of two tests one passes; and a test that cannot pass fails
 pub either : (a b : Bool) → (a || b) ≡ true → (a ≡ true) ⊎ (b ≡ true)
 either true b h = inl refl
 either false b h = inr h
+
+pub fails : (a : Bool) → (a ≡ true → ⊥) → a ≡ false
+fails true f = absurd (f refl)
+fails false f = refl
 
 pub listed-in : (s : ℕ) (ns : List ℕ) → listed s ns ≡ true → In s ns
 unfolding listed
@@ -39,11 +43,7 @@ in-listed {s} (here {x = n} e) = rw (eq-eqb s n e)
 in-listed (there i) = rw (in-listed i, or-true)
 
 pub not-listed : (s : ℕ) (ns : List ℕ) → (In s ns → ⊥) → listed s ns ≡ false
-not-listed s ns none = go (listed s ns) refl
-  where
-    go : (t : Bool) → listed s ns ≡ t → listed s ns ≡ false
-    go true e = absurd (none (listed-in s ns e))
-    go false e = e
+not-listed s ns none = fails (listed s ns) (λ e. none (listed-in s ns e))
 
 -- what stands in a list stands at a number
 module _ {A : Type 0} (d : A) where

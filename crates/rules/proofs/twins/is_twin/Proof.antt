@@ -1,13 +1,14 @@
 -- `is_twin` meets its promise: a row with the mark of a row in use is in use, and rows in use of different heights have different targets.
 -- Assumes nothing.
 use Prim.Native.Nat.{ℕ, _<_}
-use mathlib.Core.Path.{_≡_, refl}
-use mathlib.Core.Bool.{Bool, true, false, and-false, and-eq-true-iff}
+use mathlib.Core.Path.{_≡_}
+use mathlib.Core.Bool.{true, false, and-false, and-eq-true-iff}
 use native.Mathlib.Omega.{arith}
 use borrow.Author.Tests.{eq-eqb, ne-eqb}
 use lib.Dec.{eqb, ltb}
 use Rattle.letters.specs.Letters.{letters}
 use Rattle.sets.specs.Below.{allBelow}
+use Rattle.sets.proofs.Membership.{fails}
 use Rattle.rows.specs.Table.{Table, rowCount, isRow, mark, height, target, inUse}
 use Rattle.rows.specs.Rules.{rule3}
 use Rattle.rows.proofs.Facts.{row-inside, in-use-used}
@@ -23,12 +24,7 @@ module _ (t : Table) (r s : ℕ) (other : inUse t s ≡ true) where
   -- rows in use of different heights have different targets
   other-targets : rule3 t ≡ true → inUse t r ≡ true → (height t r ≡ height t s → ⊥)
       → allBelow letters (λ x. eqb (target t r x) (target t s x)) ≡ false
-  other-targets holds used differ = go _ refl
-    where
-      go : (b : Bool) → allBelow letters (λ x. eqb (target t r x) (target t s x)) ≡ b
-          → allBelow letters (λ x. eqb (target t r x) (target t s x)) ≡ false
-      go true e = absurd (differ (same-height t holds r s used other e))
-      go false e = e
+  other-targets holds used differ = fails _ (λ e. differ (same-height t holds r s used other e))
 
 inside : (c : tie.Start) → (c .args .r < rowCount (c .args .t .now)) × (c .args .s < rowCount (c .args .t .now))
 inside c = (row-inside (c .args .t .now) _ (c .pre .2) .1, in-use-used (c .args .t .now) _ (c .pre .1) .inside)
