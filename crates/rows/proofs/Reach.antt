@@ -11,7 +11,6 @@ use lib.Dec.{eqb}
 use borrow.Author.Tests.{eqb-true, eq-eqb}
 use Rattle.letters.specs.Each.{Each}
 use Rattle.letters.specs.Letters.{letters}
-use Rattle.letters.specs.Names.{longest}
 use Rattle.sets.proofs.Membership.{either, In, each-in, some-in, in-some}
 use Rattle.sets.proofs.Below.{some-below, below-some}
 use Rattle.rows.specs.Table.{Table, isRow, height, target}
@@ -57,10 +56,10 @@ module _ (t : Table) where
         ]
 
     pub reaches-self : (r : ℕ) → Used t r → reaches t r r ≡ true
-    reaches-self r u = here-reached (suc longest) r u (omega arith)
+    reaches-self r u = here-reached _ r u (omega arith)
 
     pub reaches-arc : (n s x : ℕ) → Named t n → reaches t n s ≡ true → Arc t s x → reaches t n (target t s x) ≡ true
-    reaches-arc n s x named = arc-reached (suc longest) n s x named (λ u. omega (arith, tidy .low n u))
+    reaches-arc n s x named = arc-reached _ n s x named (λ u. omega (arith, tidy .low n u))
 
     module _ (P : ℕ → Type 0) (step : (s x : ℕ) → Arc t s x → P s → P (target t s x)) where
       all-reached : (most n : ℕ) → Named t n → (Used t n → P n) → (s : ℕ) → reachesIn most t n s ≡ true → P s
@@ -77,7 +76,7 @@ module _ (t : Table) where
           ]
 
       pub reaches-all : (n : ℕ) → Named t n → (Used t n → P n) → (s : ℕ) → reaches t n s ≡ true → P s
-      reaches-all n = all-reached (suc longest) n
+      reaches-all n = all-reached _ n
 
     module _ (roots : List ℕ) (named : Each (Named t) roots) where
       pub reached-root : (r : ℕ) → In r roots → Used t r → reachedFrom t roots r ≡ true
