@@ -12,6 +12,10 @@ use lib.Count.{ones, onesIn, ones-cat, trailingZeros}
 use borrow.Author.Tests.{eq-eqb, ne-eqb}
 use Rattle.letters.specs.LetterSet.{flag, sumOf, countOf}
 
+pub flag-le : (b : Bool) → flag b ≤ 1
+flag-le true = omega arith
+flag-le false = omega arith
+
 -- a bit more or not, above the others
 pub sum-lt : (n : ℕ) (test : ℕ → Bool) → sumOf n test < 2 ^ n
 unfolding sumOf
@@ -48,7 +52,12 @@ letter-le-sum (suc n) test x h t = elim (ℕ-discrete x n) [
   | no d ↦ let r = letter-le-sum n test x (omega arith) t in omega arith
 ]
 
--- the empty set has none
+-- the empty set has none, and what has none is the empty set
+pub none-sum : (n : ℕ) (test : ℕ → Bool) → ((y : ℕ) → y < n → test y ≡ false) → sumOf n test ≡ 0
+unfolding sumOf
+none-sum zero test none = refl
+none-sum (suc n) test none = rw (none n (omega arith), none-sum n test (λ y h. none y (omega arith))) (omega arith)
+
 pub sum-none : (n : ℕ) (test : ℕ → Bool) → sumOf n test ≡ 0 → (y : ℕ) → y < n → test y ≡ false
 sum-none n test e y h = go (test y) refl
   where

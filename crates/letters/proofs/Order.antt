@@ -8,7 +8,7 @@ use mathlib.Core.List.{[], _∷_}
 use lib.Dec.{isEq, eqb}
 use borrow.Author.Tests.{eqb-true}
 use Rattle.letters.specs.Words.{Word, then, order, isBefore, before, same}
-use Rattle.letters.proofs.Compare.{compare-same, compare-eq, compare-lt, flip, compare-flip, compare-trans}
+use Rattle.letters.proofs.Compare.{compare-same, compare-eq, compare-lt, compare-gt, flip, compare-flip, compare-trans}
 
 -- a word and itself
 pub order-cons : (x : ℕ) (u v : Word) → order (x ∷ u) (x ∷ v) ≡ order u v
@@ -65,6 +65,10 @@ after-before u v e = rw (order-flip u v, e)
 pub lower-before : (x y : ℕ) (u v : Word) → x < y → before (x ∷ u) (y ∷ v) ≡ true
 unfolding order
 lower-before x y u v h = rw (compare-lt x y h)
+
+pub higher-not-before : (x y : ℕ) (u v : Word) → y < x → before (x ∷ u) (y ∷ v) ≡ false
+unfolding order
+higher-not-before x y u v h = rw (compare-gt x y h)
 
 pub before-not-same : (u v : Word) → before u v ≡ true → same u v ≡ false
 before-not-same u v = go (order u v)

@@ -1,19 +1,38 @@
 -- Words and their bytes: there and back, and what is known of a name and of a prefix. All follows from the laws of letters.
 -- Assumes nothing.
-use Prim.Native.Nat.{ℕ, _≤_, _<_}
+use Prim.Native.Nat.{ℕ, _-_, _≤_, _<_}
 use mathlib.Core.Path.{_≡_, refl, ap₂}
 use mathlib.Core.Bool.{true, and-eq-true-iff}
 use mathlib.Core.List.{List, [], _∷_}
+use native.Mathlib.Nat.{not-suc-le-zero}
+use native.Mathlib.Omega.{arith}
 use borrow.Author.Tests.{ltb-true, leb-true, lt-ltb, le-leb}
-use lib.ListN.{length, length-map}
-use Rattle.letters.specs.Letters.{letters}
-use Rattle.letters.specs.Words.{Word, wordOf, bytesOf, Spelled}
+use lib.ListN.{length, getD, length-map}
+use lib.Seq.{take-all}
+use Rattle.letters.specs.Letters.{letters, letter}
+use Rattle.letters.specs.Words.{Word, wordOf, bytesOf, rest, Spelled}
 use Rattle.letters.specs.Names.{longest, spelled, isPrefix, isName}
 use Rattle.letters.proofs.Laws.{letter-byteOf}
 
 pub wordOf-bytesOf : (w : Word) → Spelled w → wordOf (bytesOf w) ≡ w
 wordOf-bytesOf [] s = refl
 wordOf-bytesOf (x ∷ w) s = ap₂ _∷_ (letter-byteOf x (s .0)) (wordOf-bytesOf w (s .1))
+
+all-left : (b : ℕ) (bytes : List ℕ) → rest (b ∷ bytes) ≡ bytes
+all-left b bytes = take-all (length (b ∷ bytes) - 1) bytes (omega arith)
+
+-- the first letter of a word, and what is left of it
+pub word-rest : (bytes : List ℕ) → 0 < length bytes → wordOf bytes ≡ letter (getD bytes 0 0) ∷ wordOf (rest bytes)
+word-rest [] some = absurd (not-suc-le-zero some)
+word-rest (b ∷ bytes) some = rw (all-left b bytes)
+
+pub rest-shorter : (bytes : List ℕ) → 0 < length bytes → length (rest bytes) < length bytes
+rest-shorter [] some = absurd (not-suc-le-zero some)
+rest-shorter (b ∷ bytes) some = rw (all-left b bytes) (omega arith)
+
+pub spelled-rest : (bytes : List ℕ) → 0 < length bytes → Spelled (wordOf bytes)
+    → (letter (getD bytes 0 0) < letters) × Spelled (wordOf (rest bytes))
+spelled-rest bytes some s = rw (word-rest bytes some) at s
 
 pub spelled-word : (bytes : List ℕ) → spelled bytes ≡ true → Spelled (wordOf bytes)
 spelled-word [] e = tt

@@ -1,8 +1,9 @@
 -- Words: lists of letter numbers, what they are as bytes, and their order. Assumes nothing.
-use Prim.Native.Nat.{ℕ, _<_, compare, Ordering, Ordering·lt, Ordering·eq, Ordering·gt}
+use Prim.Native.Nat.{ℕ, _-_, _<_, compare, Ordering, Ordering·lt, Ordering·eq, Ordering·gt}
 use mathlib.Core.Bool.{Bool, true, false}
 use mathlib.Core.List.{List, [], _∷_, map}
 use lib.Dec.{isEq}
+use lib.ListN.{length, take, drop}
 use Rattle.letters.specs.Each.{Each}
 use Rattle.letters.specs.Letters.{letters, letter, byteOf}
 
@@ -16,6 +17,10 @@ wordOf bytes = map letter bytes
 
 abbrev pub bytesOf : Word → List ℕ
 bytesOf w = map byteOf w
+
+-- the bytes behind the first, as the part of the slice that is handed on
+abbrev pub rest : List ℕ → List ℕ
+rest bytes = take (length bytes - 1) (drop 1 bytes)
 
 -- every number of the word is a letter's
 abbrev pub Spelled : Word → Type 0

@@ -31,6 +31,10 @@ abbrev pub outcome : Book → ℕ → Outcome → Outcome
 outcome b zero done = done
 outcome b (suc n) done = refused (suc n) b
 
+-- what a rule comes to: refused by the lowest number that applies, or else done
+abbrev pub ruled : Book → Rule → Outcome
+ruled b r = outcome b (given (r .refusals)) (r .done)
+
 -- "Each call answers a number and a value": what a call on a book comes to
 unfoldable pub run : Book → Call → Outcome
-run b c = outcome b (given (rule b c .refusals)) (rule b c .done)
+run b c = ruled b (rule b c)

@@ -5,7 +5,7 @@ use Prim.Native.Nat.{ℕ, zero, suc, _+_, _<_}
 use native.Mathlib.Omega.{arith}
 use mathlib.Core.Path.{_≡_, refl, sym, _∙_}
 use mathlib.Core.Logic.{inl, inr}
-use mathlib.Core.Bool.{true, false, _&&_}
+use mathlib.Core.Bool.{true, false}
 use mathlib.Core.List.{[], _∷_}
 use lib.ListN.{length, length-map, List·getD-map}
 use Rattle.letters.specs.Each.{Each}
@@ -21,7 +21,7 @@ use Rattle.sets.proofs.Below.{in-over, length-each, each-at, each-given}
 use Rattle.sets.proofs.States.{Filled}
 use Rattle.model.specs.Lists.{missions, listOf, hasNames, mayFollow}
 use Rattle.rows.specs.Table.{Table, isRow, start, starts, height, target}
-use Rattle.rows.specs.Walk.{walkFrom, accepts, follows}
+use Rattle.rows.specs.Walk.{walkFrom, accepts, hasArc, follows}
 use Rattle.rows.specs.Words.{shortWords, words, names, lists}
 use Rattle.rows.specs.Tidy.{Used, Named, Tidy, Sound}
 use Rattle.rows.specs.Reach.{reached}
@@ -86,7 +86,7 @@ module _ (t : Table) where
           | inr e ↦ let out = no-row t n e in rw (out, words-none t n out)
         ]
 
-    row-follows : (n x : ℕ) → Named t n → x < letters → (isRow t n && isRow t (target t n x)) ≡ hasNames (after x (words t n))
+    row-follows : (n x : ℕ) → Named t n → x < letters → hasArc t n x ≡ hasNames (after x (words t n))
     unfolding after
     row-follows n x named h =
         elim (named-cases named) [

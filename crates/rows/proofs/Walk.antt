@@ -2,11 +2,11 @@
 -- target of the first letter with the rest of the word. What ask and next say of the end of a walk follows. Assumes nothing.
 use Prim.Native.Nat.{ℕ}
 use mathlib.Core.Path.{_≡_, refl}
-use mathlib.Core.Bool.{Bool, true, false, cond, _&&_}
+use mathlib.Core.Bool.{Bool, true, false, cond}
 use mathlib.Core.List.{[], _∷_}
 use Rattle.letters.specs.Words.{Word}
 use Rattle.rows.specs.Table.{Table, isRow, target, ends}
-use Rattle.rows.specs.Walk.{walk, walkFrom, accepts, follows}
+use Rattle.rows.specs.Walk.{walk, walkFrom, accepts, hasArc, follows}
 
 module _ (t : Table) (n : ℕ) where
   pub walk-none : isRow t n ≡ false → (w : Word) → walkFrom t w n .row ≡ 0
@@ -48,8 +48,8 @@ module _ (t : Table) (n : ℕ) where
     pub none-follows : isRow t n ≡ false → (u : Word) → follows t u n x ≡ false
     none-follows e u = rw (walk-none e u)
 
-    pub follows-empty : follows t [] n x ≡ (isRow t n && isRow t (target t n x))
-    follows-empty = says-empty (λ r. isRow t r && isRow t (target t r x)) refl (λ e. rw e)
+    pub follows-empty : follows t [] n x ≡ hasArc t n x
+    follows-empty = says-empty (λ r. hasArc t r x) refl (λ e. rw e)
 
     pub follows-step : isRow t n ≡ true → (y : ℕ) (u : Word) → follows t (y ∷ u) n x ≡ follows t u (target t n y) x
     follows-step e y u = rw (walk-step e y u)

@@ -23,6 +23,10 @@ walkFrom t w n = cond (isRow t n) (walk t w n) (record { row = 0; left = w })
 abbrev pub accepts : Table → Word → ℕ → Bool
 accepts t w n = ends t (walkFrom t w n .row)
 
--- "next reports each letter whose target is a row." "A prefix that leads nowhere gives 0 and 0."
+-- "next reports each letter whose target is a row."
+abbrev pub hasArc : Table → ℕ → ℕ → Bool
+hasArc t n x = isRow t n && isRow t (target t n x)
+
+-- "A prefix that leads nowhere gives 0 and 0."
 abbrev pub follows : Table → Word → ℕ → ℕ → Bool
-follows t w n x = isRow t (walkFrom t w n .row) && isRow t (target t (walkFrom t w n .row) x)
+follows t w n x = hasArc t (walkFrom t w n .row) x

@@ -1,7 +1,9 @@
 -- The laws of what is said of the numbers below n and of what they give: the tests pass at all of them, or at one; what stands in the list of
--- what they give stands in what one of them gives, and lists of words that rise, one before the other, give a list that rises; the greatest is
--- at least each, and at most what is at least each; and the list of one thing of each has them in their places. Assumes nothing.
-use Prim.Native.Nat.{ℕ, zero, suc, _≤_, _<_}
+-- what they give stands in what one of them gives, and lists of words that rise, one before the other, give a list that rises; its length is
+-- the sum of their lengths, and what each gives stands behind as many as the lower ones give; the greatest is at least each, and at most what
+-- is at least each; a sum holds the sum of fewer, and is the same where the others give 0; and the list of one thing of each has them in their
+-- places. Assumes nothing.
+use Prim.Native.Nat.{ℕ, zero, suc, _+_, _≤_, _<_}
 use native.Mathlib.Omega.{arith}
 use native.Mathlib.Decide.{ℕ-discrete}
 use mathlib.Core.Path.{_≡_, refl, sym, _∙_}
@@ -10,14 +12,14 @@ use mathlib.Core.Logic.{inl, inr}
 use mathlib.Core.List.{List, [], _∷_}
 use lib.Dec.{eqb, ltb}
 use lib.ListN.{length, getD, length-append, List·getD-append}
-use lib.Seq.{getD-at}
+use lib.Seq.{getD-at, getD-append-add}
 use borrow.Author.Tests.{ltb-true, eqb-true, lt-ltb, eq-eqb}
 use Rattle.letters.specs.Each.{Each}
 use Rattle.letters.specs.Words.{Word, before}
-use Rattle.sets.specs.Below.{allBelow, someBelow, greatest, over, each}
-use Rattle.sets.specs.Sets.{Words, member, Rising}
+use Rattle.sets.specs.Below.{allBelow, someBelow, greatest, total, over, each}
+use Rattle.sets.specs.Sets.{Words, member, Rising, keep}
 use Rattle.sets.proofs.Sets.{member-append, rising-append}
-use Rattle.sets.proofs.Membership.{either, fails, In, each-append, nil-in, append-in, in-left, in-right}
+use Rattle.sets.proofs.Membership.{either, fails, In, each-append, nil-in, append-in, in-left, in-right, keep-append}
 
 -- two tests that pass together are the same
 pub tests-agree : (a b : Bool) → (a ≡ true → b ≡ true) → (b ≡ true → a ≡ true) → a ≡ b
@@ -112,6 +114,55 @@ module _ (given : ℕ → ℕ) where
   unfolding greatest
   greatest-least zero top f = omega arith
   greatest-least (suc n) top f = omega (arith, greatest-least n top (λ i h. f i (omega arith)), f n (omega arith))
+
+-- sums, and the list of what all of them give
+pub total-agree : (n : ℕ) (f g : ℕ → ℕ) → ((i : ℕ) → i < n → f i ≡ g i) → total n f ≡ total n g
+unfolding total
+total-agree zero f g e = refl
+total-agree (suc n) f g e = rw (total-agree n f g (λ i h. e i (omega arith)), e n (omega arith))
+
+module _ (given : ℕ → ℕ) where
+  pub total-more : (n k : ℕ) → n ≤ k → total n given ≤ total k given
+  unfolding total
+  total-more n zero h = let e : n ≡ 0 = omega arith in rw e (omega arith)
+  total-more n (suc k) h =
+      elim (ℕ-discrete n (suc k)) [ yes e ↦ rw e (omega arith) | no e ↦ omega (arith, total-more n k (omega arith)) ]
+
+  pub total-one : (n i : ℕ) → i < n → total i given + given i ≤ total n given
+  unfolding total
+  total-one n i h = total-more (suc i) n h
+
+  pub total-skip : (n k : ℕ) → n ≤ k → ((i : ℕ) → n ≤ i → i < k → given i ≡ 0) → total k given ≡ total n given
+  unfolding total
+  total-skip n zero h f = let e : n ≡ 0 = omega arith in rw e
+  total-skip n (suc k) h f =
+      elim (ℕ-discrete n (suc k)) [
+        | yes e ↦ rw e
+        | no e ↦ omega (arith, total-skip n k (omega arith) (λ i low below. f i low (omega arith)), f k (omega arith) (omega arith))
+      ]
+
+module _ {A : Type 0} (given : ℕ → List A) where
+  pub length-over : (n : ℕ) → length (over n given) ≡ total n (λ i. length (given i))
+  unfolding over total
+  length-over zero = refl
+  length-over (suc n) = rw (length-append, length-over n)
+
+  pub over-at : (n i j : ℕ) (d : A) → i < n → j < length (given i)
+      → getD (over n given) (total i (λ k. length (given k)) + j) d ≡ getD (given i) j d
+  unfolding over
+  over-at zero i j d h below = absurd (omega arith)
+  over-at (suc n) i j d h below =
+      elim (ℕ-discrete i n) [
+        | yes e ↦ rw (e, ← length-over n) (getD-append-add (over n given) (given n) j d)
+        | no e ↦
+            List·getD-append (over n given) (given n) d _ (rw length-over (omega (arith, total-one (λ k. length (given k)) n i (omega arith))))
+            ∙ over-at n i j d (omega arith) below
+      ]
+
+  pub keep-over : (test : A → Bool) (n : ℕ) → keep test (over n given) ≡ over n (λ i. keep test (given i))
+  unfolding over keep
+  keep-over test zero = refl
+  keep-over test (suc n) = rw (keep-append, keep-over test n)
 
 module _ {A : Type 0} (given : ℕ → A) where
   pub length-each : (n : ℕ) → length (each n given) ≡ n

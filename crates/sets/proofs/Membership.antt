@@ -1,7 +1,7 @@
 -- Membership in a list as a proposition, under short names: `here` and `there` say where the thing stands. What `keep` keeps is what was
--- there and passes the test, so it is apart if the list was. What is said of each thing is said of what stands in the list, and what is said
--- of some thing is said of one that stands there; and what stands in a list stands at a number. In the names, `in-X` leads into X and `X-in`
--- out of it. Assumes nothing.
+-- there and passes the test, so it is apart if the list was, and it goes part by part. What is said of each thing is said of what stands in the
+-- list, and what is said of some thing is said of one that stands there; and what stands in a list stands at a number. In the names, `in-X`
+-- leads into X and `X-in` out of it. Assumes nothing.
 use Prim.Native.Nat.{ℕ, zero, suc, _<_}
 use native.Mathlib.Omega.{arith}
 use mathlib.Core.Path.{_≡_, refl, ap, sym}
@@ -104,6 +104,16 @@ module _ {A : Type 0} (test : A → Bool) where
   in-keep {a} (there {x = b} {xs = l} i) h =
       let rest = in-keep i h in
       elim (test b) as (λ t. In a (cond t (b ∷ keep test l) (keep test l))) [ true ↦ there rest | false ↦ rest ]
+
+  pub keep-append : (k l : List A) → keep test (k ++ l) ≡ keep test k ++ keep test l
+  unfolding keep
+  keep-append [] l = refl
+  keep-append (a ∷ k) l =
+      let rest = keep-append k l in
+      elim (test a) as (λ t. cond t (a ∷ keep test (k ++ l)) (keep test (k ++ l)) ≡ cond t (a ∷ keep test k) (keep test k) ++ keep test l) [
+        | true ↦ cc
+        | false ↦ rest
+      ]
 
   pub keep-apart : (l : List A) → Apart l → Apart (keep test l)
   unfolding keep

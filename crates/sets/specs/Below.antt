@@ -1,5 +1,5 @@
 -- What is said of the numbers below n, and what they give. Assumes nothing.
-use Prim.Native.Nat.{ℕ, zero, suc, max}
+use Prim.Native.Nat.{ℕ, zero, suc, _+_, max}
 use mathlib.Core.Bool.{Bool, true, false, cond, _&&_, _||_}
 use mathlib.Core.List.{List, [], _∷_, _++_}
 
@@ -17,6 +17,11 @@ someBelow (suc n) test = someBelow n test || test n
 unfoldable pub greatest : ℕ → (ℕ → ℕ) → ℕ
 greatest zero given = 0
 greatest (suc n) given = max (greatest n given) (given n)
+
+-- the sum of the numbers that they give
+unfoldable pub total : ℕ → (ℕ → ℕ) → ℕ
+total zero given = 0
+total (suc n) given = total n given + given n
 
 -- what they give, rising, one behind the other
 unfoldable pub over : {A : Type 0} → ℕ → (ℕ → List A) → List A

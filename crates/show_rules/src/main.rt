@@ -1,7 +1,11 @@
 // Runs `sound` on books written out by hand and prints what it says of each: the empty book, one whose lists share rows, books that break one
 // rule each, and slices that are no book. The file stdout is what it must print.
+use handwritten::put;
+use handwritten::put_arc;
+use handwritten::put_chain;
+use handwritten::put_row;
+use handwritten::put_start;
 use libc::STDOUT_FILENO;
-use rows::WIDTH;
 
 fn show(text: &[u8], t: &[u16]) {
     io::write_all(STDOUT_FILENO, text);
@@ -10,30 +14,6 @@ fn show(text: &[u8], t: &[u16]) {
     } else {
         io::write_all(STDOUT_FILENO, b": not sound\n");
     }
-}
-
-// Puts number i of row r.
-fn put(t: &mut [u16], r: u16, i: u16, n: u16) {
-    let at = r as usize * WIDTH + i as usize;
-    if at < t.len() {
-        t[at] = n;
-    }
-}
-
-// Puts the start of mission m.
-fn put_start(t: &mut [u16], m: u16, r: u16) {
-    put(t, 0, m, r);
-}
-
-// Puts row r with one arc, for letter x to row s.
-fn put_row(t: &mut [u16], r: u16, mark: u16, height: u16, x: u8, s: u16) {
-    put(t, r, 0, mark);
-    put(t, r, 1, height);
-    put_arc(t, r, x, s);
-}
-
-fn put_arc(t: &mut [u16], r: u16, x: u8, s: u16) {
-    put(t, r, x as u16 + 2, s);
 }
 
 // Mission 0 has A0 and B0, mission 1 has C0, mission 2 has 0: four rows, of which 3 and 4 are shared.
@@ -137,22 +117,11 @@ fn show_heights() {
     show(b"as it was", &t);
 }
 
-// A word of as many letters as there are rows behind the start: row 25 is the last of 24 letters, row 26 of 25.
-fn put_chain(t: &mut [u16], rows: u16) {
-    let mut r = 1;
-    while r < rows {
-        put_row(t, r, 1, rows - r, 0, r + 1);
-        r += 1;
-    }
-    put(t, rows, 0, 2);
-    put_start(t, 0, 1);
-}
-
 fn show_chains() {
     let mut t = [0u16; 2080];
-    put_chain(&mut t, 25);
+    put_chain(&mut t, 25, 1);
     show(b"a name of 24 letters", &t);
-    put_chain(&mut t, 26);
+    put_chain(&mut t, 26, 1);
     show(b"3: a word of 25 letters", &t);
 }
 

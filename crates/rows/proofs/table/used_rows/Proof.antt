@@ -1,18 +1,14 @@
 -- `used_rows` meets its promise. The loop's invariant: `n` rows below `r` are in use. The measure is the rows that are left. Assumes nothing.
 use Prim.Native.Nat.{_-_, _≤_}
 use mathlib.Core.Path.{_≡_, _∙_}
-use mathlib.Core.Bool.{Bool, true, false}
 use native.Mathlib.Numerals.{add-one}
 use native.Mathlib.Omega.{arith}
 use borrow.Author.Needs.{needs}
-use Rattle.letters.specs.LetterSet.{flag, countOf}
+use Rattle.letters.specs.LetterSet.{countOf}
+use Rattle.letters.proofs.LetterSet.{flag-le}
 use Rattle.rows.specs.Table.{rowCount, inUse}
 use Rattle.rows.proofs.table.used_rows.Statement.{statement}
 use Rattle.rows.proofs.table.used_rows.Tie as tie
-
-flag-le : (b : Bool) → flag b ≤ 1
-flag-le true = omega arith
-flag-le false = omega arith
 
 abbrev Inv-loop : tie.InvT-loop
 Inv-loop t k n₀ r₀ n r = (k ≡ rowCount t) × (r ≤ k) × (n ≤ r) × (n ≡ countOf r (λ s. inUse t s))

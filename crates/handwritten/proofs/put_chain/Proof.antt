@@ -3,26 +3,26 @@ use Prim.Native.Nat.{_-_}
 use mathlib.Core.Path.{_≡_}
 use borrow.Author.Needs.{needs}
 use lib.ListN.{length}
-use Rattle.show_rules.proofs.put_chain.Statement.{statement}
-use Rattle.show_rules.proofs.put_chain.Tie as tie
+use Rattle.handwritten.proofs.put_chain.Statement.{statement}
+use Rattle.handwritten.proofs.put_chain.Tie as tie
 
 abbrev Inv-loop : tie.InvT-loop
-Inv-loop t₀ rows r₀ t r = length t ≡ length t₀
+Inv-loop t₀ rows letters r₀ t r = length t ≡ length t₀
 
 abbrev μ-loop : tie.MeasureT-loop
-μ-loop t₀ rows r₀ t r = rows - r
+μ-loop t₀ rows letters r₀ t r = rows - r
 
 loop-holds : tie.Need-loop-holds Inv-loop μ-loop
 loop-holds c = search needs
 
-sub-put-row : tie.Need-sub-put-row Inv-loop μ-loop
-sub-put-row c = search needs
+sub-put-fan : tie.Need-sub-put-fan Inv-loop μ-loop
+sub-put-fan c = search needs
 
-add-put-row : tie.Need-add-put-row Inv-loop μ-loop
-add-put-row c = search needs
+add-put-fan : tie.Need-add-put-fan Inv-loop μ-loop
+add-put-fan c = search needs
 
-put-row-requires : tie.Need-put-row-requires Inv-loop μ-loop
-put-row-requires c κs = search needs
+put-fan-requires : tie.Need-put-fan-requires Inv-loop μ-loop
+put-fan-requires c κs = search needs
 
 add-r : tie.Need-add-r Inv-loop μ-loop
 add-r c = search needs
@@ -52,9 +52,9 @@ put-chain-spec =
     Inv-loop
     μ-loop
     loop-holds
-    sub-put-row
-    add-put-row
-    put-row-requires
+    sub-put-fan
+    add-put-fan
+    put-fan-requires
     add-r
     loop-less
     loop-again

@@ -1,0 +1,15 @@
+-- How many words of a row stand before those that begin with a letter. Assumes nothing.
+use Prim.Native.Nat.{ℕ, _+_}
+use lib.ListN.{length}
+use Rattle.letters.specs.LetterSet.{flag}
+use Rattle.sets.specs.Below.{total}
+use Rattle.rows.specs.Table.{Table, target, ends}
+use Rattle.rows.specs.Words.{words}
+
+-- the empty word, where a name may end at the row, and as many as the targets of the lower letters are given
+abbrev pub aheadBy : (ℕ → ℕ) → Table → ℕ → ℕ → ℕ
+aheadBy given t r x = flag (ends t r) + total x (λ y. given (target t r y))
+
+-- how many words of the row stand before those that begin with letter x
+abbrev pub ahead : Table → ℕ → ℕ → ℕ
+ahead t r x = aheadBy (λ n. length (words t n)) t r x

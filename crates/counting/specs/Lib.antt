@@ -1,0 +1,3 @@
+-- How many words there are from a row. Assumes nothing.
+pub mod Ahead
+pub mod Counts

@@ -1,0 +1,11 @@
+// Counting: the number of words from each row, cut above 60,000, in a local array that one pass by
+// rising height fills; and the rank of a name, by that array. The time is polynomial in the rows,
+// whatever the number of names.
+mod counts;
+mod rank;
+
+pub use counts::MOST;
+pub use counts::count_at;
+pub use counts::count_words;
+pub use counts::target_count;
+pub use rank::rank_from;
