@@ -25,7 +25,7 @@ use Rattle.rows.specs.Table.{Table, rowCount, target, ends}
 use Rattle.rows.specs.Walk.{hasArc}
 use Rattle.rows.specs.Words.{behind, words}
 use Rattle.rows.specs.Tidy.{Used, Named, Tidy}
-use Rattle.rows.proofs.Facts.{used-row, named-cases, target-named}
+use Rattle.rows.proofs.Facts.{used-row, named-inside, target-named}
 use Rattle.rows.proofs.Words.{words-row, words-none}
 use Rattle.counting.specs.Ahead.{aheadBy, ahead}
 use Rattle.counting.specs.Counts.{countAt, Counts}
@@ -83,11 +83,6 @@ nth-behind x [] n h = absurd (omega arith)
 nth-behind x (w ∷ l) zero h = refl
 nth-behind x (w ∷ l) (suc n) h = nth-behind x l n (omega arith)
 
--- a target has a place in an array with one for every row
-pub target-inside : (t : Table) → Tidy t → (r x : ℕ) → Used t r → x < letters → target t r x < rowCount t
-target-inside t tidy r x u h =
-    elim (named-cases (target-named t tidy r x u h)) [ inl v ↦ v .inside | inr e ↦ omega (arith, tidy .least) ]
-
 module _ (t : Table) (tidy : Tidy t) (r : ℕ) (u : Used t r) where
   -- what the letter's target gives
   abbrev given : ℕ → Words
@@ -131,6 +126,10 @@ module _ (t : Table) (tidy : Tidy t) (r : ℕ) (u : Used t r) where
       (getD-append-add (ended (ends t r)) _ _ [] ∙ over-at _ letters x n [] h (rw length-map below) ∙ nth-behind x (given x) n below)
 
 module _ (t : Table) (counts : List ℕ) (c : Counts t counts) where
+  -- the array has a number for every row, and for 0
+  pub count-inside : (n : ℕ) → Named t n → n < length counts
+  count-inside n named = omega (arith, named-inside t (c .tidy) n named, c .long)
+
   pub count-exact : (n : ℕ) → Named t n → length (words t n) ≤ most → countAt counts n ≡ length (words t n)
   count-exact n named few = omega (arith, c .counted n named)
 

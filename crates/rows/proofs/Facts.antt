@@ -43,6 +43,9 @@ pub named-cases : {t : Table} {n : ℕ} → Named t n → Used t n ⊎ (n ≡ 0)
 named-cases {n} named = elim (ℕ-discrete n 0) [ yes e ↦ inr e | no e ↦ inl (named (omega arith)) ]
 
 module _ (t : Table) (tidy : Tidy t) where
+  pub named-inside : (n : ℕ) → Named t n → n < rowCount t
+  named-inside n named = elim (named-cases named) [ inl u ↦ u .inside | inr e ↦ omega (arith, tidy .least) ]
+
   pub target-named : (r x : ℕ) → Used t r → x < letters → Named t (target t r x)
   target-named r x u h there = tidy .targets r x (record { used = u; letter = h; there = there })
 

@@ -1,7 +1,7 @@
 -- `target_count` meets its promise: a target of a tidy table is 0 or a row, and so has a place in the array. Assumes nothing.
 use native.Mathlib.Omega.{arith}
 use borrow.Author.Needs.{needs}
-use Rattle.counting.proofs.Ahead.{target-inside}
+use Rattle.rows.proofs.Facts.{named-inside, target-named}
 use Rattle.counting.proofs.counts.target_count.Statement.{statement}
 use Rattle.counting.proofs.counts.target_count.Tie as tie
 
@@ -15,7 +15,8 @@ count-at-requires : tie.Need-count-at-requires
 count-at-requires c κs =
     let start = c .before .before .before in
     let (tidy, used, letter, long) = start .pre in
-    omega (arith, c .target .ensures, target-inside (start .args .t .now) tidy (start .args .r) (start .args .x) used letter)
+    let t = start .args .t .now in
+    omega (arith, c .target .ensures, named-inside t tidy _ (target-named t tidy (start .args .r) (start .args .x) used letter))
 
 cast-result : tie.Need-cast-result
 cast-result c = search needs

@@ -1,0 +1,6 @@
+-- The laws that the listing's functions go by. Assumes nothing.
+pub mod Buffers
+pub mod Lines
+pub mod Steps
+pub mod Spelling
+pub mod Listed

@@ -1,0 +1,3 @@
+-- The names of a list as bytes, one behind the other. Assumes nothing.
+pub mod Steps
+pub mod Pieces

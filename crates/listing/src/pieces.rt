@@ -1,0 +1,103 @@
+// A piece of a mission's list: names, each followed by 0x0A, one after another.
+use super::word::write_word;
+use counting::MOST;
+use counting::count_at;
+use counting::count_words;
+use letters::LONGEST;
+use rows::MISSIONS;
+use rows::MOST_ROWS;
+use rows::start;
+use rules::sound;
+ghost use Prim.Native.Nat.{_≤_, _<_};
+ghost use mathlib.Core.Path.{_≡_};
+ghost use mathlib.Core.List.{[], _∷_};
+ghost use lib.ListN.{length, take, drop};
+ghost use Rattle.model.specs.Lists.{nthOf};
+ghost use Rattle.model.specs.Call.{overlaid};
+ghost use Rattle.rows.specs.Words.{words};
+ghost use Rattle.rows.specs.Tidy.{Named, Tidy};
+ghost use Rattle.listing.specs.Steps.{Listable};
+ghost use Rattle.listing.specs.Pieces.{lines, fitting, unlessOver, piece, Written};
+
+const LINE_END: u8 = 0x0A;
+
+// How many names were written, and how many bytes.
+pub struct Piece {
+    pub names: u32,
+    pub bytes: usize,
+}
+
+// Copies the first n bytes to the front of the buffer.
+fn copy_front(from: &[u8], n: usize, out: &mut [u8])
+    requires { ⌜ (n ≤ length (now from)) × (n ≤ length (now out)) ⌝ }
+    ensures { λ _. ⌜ now (out .exit) ≡ overlaid (take n (now (from .entry))) (now (out .entry)) ⌝ }
+{
+    let mut i = 0;
+    while i < n {
+        out[i] = from[i];
+        i += 1;
+    }
+}
+
+// Writes the word of the row with n words before it, followed by 0x0A, to the front of the buffer if
+// it fits whole. Says how many bytes that is, 0 where it does not fit.
+fn write_line(t: &[u16], r: usize, n: u32, counts: &[u16], out: &mut [u8]) -> usize
+    requires { ⌜ Listable (now t) (now counts) r × (n < length (words (now t) r)) ⌝ }
+    ensures long { λ k. ⌜ k ≡ length (lines (fitting (length (now (out .entry))) (nthOf n (words (now (t .entry)) r) ∷ []))) ⌝ }
+    ensures buffer { λ k. ⌜ now (out .exit) ≡ overlaid (lines (fitting (length (now (out .entry))) (nthOf n (words (now (t .entry)) r) ∷ []))) (now (out .entry)) ⌝ }
+{
+    let mut word = [0u8; LONGEST];
+    let long = write_word(t, r, n, counts, &mut word);
+    if out.len() <= long {
+        return 0;
+    }
+    copy_front(&word, long, out);
+    out[long] = LINE_END;
+    long + 1
+}
+
+// Writes the words of the row from the n-th on, each followed by 0x0A, as many as fit whole.
+fn write_lines(t: &[u16], r: usize, n: u32, counts: &[u16], out: &mut [u8]) -> Piece
+    requires { ⌜ Listable (now t) (now counts) r ⌝ }
+    ensures { λ p. ⌜ Written (fitting (length (now (out .entry))) (drop n (words (now (t .entry)) r))) (now (out .entry)) (now (out .exit)) p ⌝ }
+{
+    let end = count_at(counts, r) as u32;
+    let mut names = 0u32;
+    let mut bytes = 0;
+    while n + names < end {
+        let long = write_line(t, r, n + names, counts, &mut out[bytes..]);
+        if long == 0 {
+            return Piece { names, bytes };
+        }
+        bytes += long;
+        names += 1;
+    }
+    Piece { names, bytes }
+}
+
+// Lists the words of the row from the n-th on, unless there are over 60,000.
+fn list_row(t: &[u16], r: usize, n: u32, out: &mut [u8]) -> Piece
+    requires { ⌜ Tidy (now t) × Named (now t) r ⌝ }
+    ensures { λ p. ⌜ Written (fitting (length (now (out .entry))) (drop n (unlessOver (words (now (t .entry)) r)))) (now (out .entry)) (now (out .exit)) p ⌝ }
+{
+    let mut counts = [0u16; MOST_ROWS];
+    count_words(t, &mut counts);
+    if MOST < count_at(&counts, r) {
+        return Piece { names: 0, bytes: 0 };
+    }
+    write_lines(t, r, n, &counts, out)
+}
+
+// From the n-th name of a mission's list on, as many whole names as fit, each followed by 0x0A.
+pub fn list_names(t: &[u16], m: u32, n: u32, out: &mut [u8]) -> Piece
+    ensures { λ p. ⌜ Written (piece (now (t .entry)) m n (length (now (out .entry)))) (now (out .entry)) (now (out .exit)) p ⌝ }
+{
+    if !sound(t) {
+        return Piece { names: 0, bytes: 0 };
+    }
+    if MISSIONS <= m as usize {
+        return Piece { names: 0, bytes: 0 };
+    }
+    let r = start(t, m as usize) as usize;
+    list_row(t, r, n, out)
+}
