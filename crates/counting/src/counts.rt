@@ -4,6 +4,7 @@ use letters::LONGEST;
 use rows::height;
 use rows::in_use;
 use rows::row_count;
+use rows::start;
 use rows::target;
 use walking::ends;
 ghost use Prim.Native.Nat.{suc, _+_, _*_, _≤_, _<_};
@@ -12,7 +13,9 @@ ghost use lib.ListN.{length};
 ghost use Rattle.letters.specs.Letters.{letters};
 ghost use Rattle.letters.specs.LetterSet.{flag};
 ghost use Rattle.sets.specs.Cut.{cut};
+ghost use Rattle.model.specs.Lists.{missions};
 ghost use Rattle.rows.specs.Table.{rowCount, target, ends};
+ghost use Rattle.rows.specs.Words.{names};
 ghost use Rattle.rows.specs.Tidy.{Used, Tidy};
 ghost use Rattle.counting.specs.Ahead.{aheadBy};
 ghost use Rattle.counting.specs.Counts.{countAt, turn, CountedTo, Counts};
@@ -94,7 +97,7 @@ fn count_height(t: &[u16], h: usize, counts: &mut [u16])
 }
 
 // Counts all rows.
-pub fn count_words(t: &[u16], counts: &mut [u16])
+fn count_words(t: &[u16], counts: &mut [u16])
     requires { ⌜ Tidy (now t) × (rowCount (now t) ≤ length (now counts)) ⌝ }
     ensures { λ _. ⌜ Counts (now (t .entry)) (now (counts .exit)) ⌝ }
 {
@@ -104,4 +107,15 @@ pub fn count_words(t: &[u16], counts: &mut [u16])
         count_height(t, h, counts);
         h += 1;
     }
+}
+
+// Counts all rows, and says how many names the mission's list has, cut.
+pub fn count_names(t: &[u16], m: usize, counts: &mut [u16]) -> u16
+    requires { ⌜ Tidy (now t) × (m < missions) × (rowCount (now t) ≤ length (now counts)) ⌝ }
+    ensures counted { λ n. ⌜ Counts (now (t .entry)) (now (counts .exit)) ⌝ }
+    ensures number { λ n. ⌜ n ≡ cut (length (names (now (t .entry)) m)) ⌝ }
+{
+    count_words(t, counts);
+    let r = start(t, m) as usize;
+    count_at(counts, r)
 }

@@ -6,6 +6,6 @@ mod rank;
 
 pub use counts::MOST;
 pub use counts::count_at;
-pub use counts::count_words;
+pub use counts::count_names;
 pub use counts::target_count;
 pub use rank::rank_from;

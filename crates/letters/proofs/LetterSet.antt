@@ -43,6 +43,10 @@ unfolding sumOf
 sum-agree zero f g e = refl
 sum-agree (suc n) f g e = rw (e n (omega arith), sum-agree n f g (λ y h. e y (omega arith)))
 
+-- and as many letters
+pub count-agree : (n : ℕ) (f g : ℕ → Bool) → ((y : ℕ) → y < n → f y ≡ g y) → countOf n f ≡ countOf n g
+count-agree n f g e = sym (ones-sum n f) ∙ rw (sum-agree n f g e) (ones-sum n g)
+
 -- a letter of the set counts its power
 pub letter-le-sum : (n : ℕ) (test : ℕ → Bool) (x : ℕ) → x < n → test x ≡ true → 2 ^ x ≤ sumOf n test
 unfolding sumOf
@@ -57,6 +61,10 @@ pub none-sum : (n : ℕ) (test : ℕ → Bool) → ((y : ℕ) → y < n → test
 unfolding sumOf
 none-sum zero test none = refl
 none-sum (suc n) test none = rw (none n (omega arith), none-sum n test (λ y h. none y (omega arith))) (omega arith)
+
+pub none-count : (n : ℕ) (test : ℕ → Bool) → ((y : ℕ) → y < n → test y ≡ false) → countOf n test ≡ 0
+unfolding ones onesIn
+none-count n test none = sym (ones-sum n test) ∙ rw (none-sum n test none)
 
 pub sum-none : (n : ℕ) (test : ℕ → Bool) → sumOf n test ≡ 0 → (y : ℕ) → y < n → test y ≡ false
 sum-none n test e y h = go (test y) refl

@@ -16,17 +16,25 @@ use Rattle.letters.specs.Letters.{letters}
 use Rattle.letters.specs.LetterSet.{flag, sumOf}
 use Rattle.letters.proofs.LetterSet.{sum-agree, sum-none, sum-except, except, letter-le-sum, First, first-of-sum}
 use Rattle.sets.specs.Below.{total}
+use Rattle.sets.specs.Cut.{most}
 use Rattle.sets.proofs.Below.{total-skip}
-use Rattle.rows.specs.Table.{Table, rowCount, target, ends}
+use Rattle.model.specs.Lists.{missions}
+use Rattle.rows.specs.Table.{Table, rowCount, start, target, ends}
 use Rattle.rows.specs.Walk.{hasArc}
-use Rattle.rows.specs.Words.{words}
-use Rattle.rows.specs.Tidy.{Used, Named, Tidy}
+use Rattle.rows.specs.Words.{words, names}
+use Rattle.rows.specs.Tidy.{Used, Tidy}
 use Rattle.rows.proofs.Facts.{no-row, named-cases, target-named}
 use Rattle.rows.proofs.Words.{words-none}
+use Rattle.rows.proofs.Books.{start-named}
 use Rattle.counting.specs.Ahead.{ahead}
-use Rattle.counting.specs.Counts.{countAt}
+use Rattle.counting.specs.Counts.{countAt, Counts}
 use Rattle.counting.proofs.Ahead.{length-words, target-few, no-arc-words, count-exact}
 use Rattle.listing.specs.Steps.{Listable, Leads}
+
+-- the names of a mission are listed from its start
+pub start-listable : {t : Table} {counts : List ℕ} {m r : ℕ} → Counts t counts → m < missions → r ≡ start t m → length (names t m) ≤ most
+    → Listable t counts r
+start-listable {t} {counts} {m} {r} c h e few = rw e (record { counted = c; named = start-named t (c .tidy) m h; few = few })
 
 -- the array has the number of words from a row
 pub listable-exact : {t : Table} {counts : List ℕ} {r : ℕ} → Listable t counts r → countAt counts r ≡ length (words t r)

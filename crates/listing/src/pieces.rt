@@ -2,7 +2,7 @@
 use super::word::write_word;
 use counting::MOST;
 use counting::count_at;
-use counting::count_words;
+use counting::count_names;
 use letters::LONGEST;
 use rows::MISSIONS;
 use rows::MOST_ROWS;
@@ -12,10 +12,10 @@ ghost use Prim.Native.Nat.{_≤_, _<_};
 ghost use mathlib.Core.Path.{_≡_};
 ghost use mathlib.Core.List.{[], _∷_};
 ghost use lib.ListN.{length, take, drop};
-ghost use Rattle.model.specs.Lists.{nthOf};
+ghost use Rattle.model.specs.Lists.{missions, nthOf};
 ghost use Rattle.model.specs.Call.{overlaid};
-ghost use Rattle.rows.specs.Words.{words};
-ghost use Rattle.rows.specs.Tidy.{Named, Tidy};
+ghost use Rattle.rows.specs.Words.{words, names};
+ghost use Rattle.rows.specs.Tidy.{Tidy};
 ghost use Rattle.listing.specs.Steps.{Listable};
 ghost use Rattle.listing.specs.Pieces.{lines, fitting, unlessOver, piece, Written};
 
@@ -75,16 +75,16 @@ fn write_lines(t: &[u16], r: usize, n: u32, counts: &[u16], out: &mut [u8]) -> P
     Piece { names, bytes }
 }
 
-// Lists the words of the row from the n-th on, unless there are over 60,000.
-fn list_row(t: &[u16], r: usize, n: u32, out: &mut [u8]) -> Piece
-    requires { ⌜ Tidy (now t) × Named (now t) r ⌝ }
-    ensures { λ p. ⌜ Written (fitting (length (now (out .entry))) (drop n (unlessOver (words (now (t .entry)) r)))) (now (out .entry)) (now (out .exit)) p ⌝ }
+// Lists the names of a mission from the n-th on, unless there are over 60,000.
+fn list_mission(t: &[u16], m: usize, n: u32, out: &mut [u8]) -> Piece
+    requires { ⌜ Tidy (now t) × (m < missions) ⌝ }
+    ensures { λ p. ⌜ Written (fitting (length (now (out .entry))) (drop n (unlessOver (names (now (t .entry)) m)))) (now (out .entry)) (now (out .exit)) p ⌝ }
 {
     let mut counts = [0u16; MOST_ROWS];
-    count_words(t, &mut counts);
-    if MOST < count_at(&counts, r) {
+    if MOST < count_names(t, m, &mut counts) {
         return Piece { names: 0, bytes: 0 };
     }
+    let r = start(t, m) as usize;
     write_lines(t, r, n, &counts, out)
 }
 
@@ -98,6 +98,5 @@ pub fn list_names(t: &[u16], m: u32, n: u32, out: &mut [u8]) -> Piece
     if MISSIONS <= m as usize {
         return Piece { names: 0, bytes: 0 };
     }
-    let r = start(t, m as usize) as usize;
-    list_row(t, r, n, out)
+    list_mission(t, m as usize, n, out)
 }

@@ -6,3 +6,4 @@ pub mod Walk
 pub mod Words
 pub mod Reach
 pub mod Books
+pub mod Zeros

@@ -94,6 +94,10 @@ module _ (t : Table) where
   pub length-facts : lengthOk t ≡ true → (length t ≡ rowCount t * width) × (leastRows ≤ rowCount t) × (rowCount t ≤ mostRows)
   length-facts = says-length .0
 
+  -- a mission's start stands in the table
+  pub start-inside : lengthOk t ≡ true → (m : ℕ) → m < missions → m < length t
+  start-inside e m h = let (whole, least, most) = length-facts e in omega arith
+
   -- 1. the head
   says-start : (n : ℕ) → Says (startOk t n) (0 < n → Used t n × (mark t n ≡ 1))
   says-start n = says-as (says-else (says-eq n 0) (says-and (says-row n) (says-eq (mark t n) 1))) there back
@@ -259,6 +263,10 @@ module _ (t : Table) where
         pointed = five;
         fits = seven;
       }
+
+  pub sound-length : sound t ≡ true → lengthOk t ≡ true
+  unfolding sound
+  sound-length e = and-eq-true-iff (lengthOk t) _ .0 e .0
 
   pub facts-sound : Sound t → sound t ≡ true
   unfolding sound

@@ -1,6 +1,6 @@
 -- How the array of the rows that are pointed at grows: nothing written points at no row, one write points at one, and one list of writes
 -- behind another points at the rows of both. An array that was zeros then says which rows are pointed at. Assumes nothing.
-use Prim.Native.Nat.{ℕ, zero, suc, _≤_, _<_}
+use Prim.Native.Nat.{ℕ, _≤_, _<_}
 use mathlib.Core.Path.{_≡_, refl, sym, _∙_}
 use mathlib.Core.Bool.{Bool, true, false, cond, _||_, false≢true}
 use mathlib.Core.List.{List}
@@ -10,6 +10,7 @@ use lib.Dec.{eqb}
 use lib.ListN.{length, getD, set, replicate, length-set, length-replicate}
 use lib.Seq.{getD-set-same, getD-set-other}
 use Rattle.rows.specs.Table.{Table, width, rowCount}
+use Rattle.rows.proofs.Zeros.{zero-cell}
 use Rattle.rules.specs.Pointed.{Pointed, Tested, targetOfBelow, Targets}
 
 pub points-nowhere : {at : ℕ → Bool} {p : List ℕ} → ((s : ℕ) → at s ≡ false) → Pointed at p p
@@ -43,16 +44,11 @@ points-at-both {first} {second} {both} {p} {q} {r} one two same =
 pub not-passed : {rule : Bool} {at : ℕ → Bool} {p q : List ℕ} → false ≡ rule → length q ≡ length p → Tested rule at p q false
 not-passed e long = record { says = e; long = long; points = λ d. absurd (false≢true d) }
 
-zeros : (n s : ℕ) → _≡_ {A = ℕ} (getD (replicate n 0) s 0) 0
-zeros zero s = refl
-zeros (suc n) zero = refl
-zeros (suc n) (suc s) = zeros n s
-
 pub targets-from-zeros : (t : Table) {n : ℕ} {p : List ℕ} → width ≤ length t → rowCount t ≤ n
     → Pointed (λ s. targetOfBelow t (rowCount t) s) (replicate n 0) p → Targets t p
 targets-from-zeros t {n} whole inside d =
     record {
       head = whole;
       long = rw (d .long, length-replicate {A = ℕ}) inside;
-      points = λ s h. rw (d .points s h, zeros n s);
+      points = λ s h. rw (d .points s h, zero-cell n s);
     }

@@ -6,7 +6,6 @@ use borrow.Author.Needs.{needs}
 use borrow.Author.Tests.{not-true, not-false}
 use Rattle.rows.specs.Rules.{sound}
 use Rattle.rows.proofs.Rules.{sound-facts}
-use Rattle.rows.proofs.Books.{start-named}
 use Rattle.listing.proofs.Listed.{nothing-written, unsound-none, no-mission-none, listed-names}
 use Rattle.listing.proofs.pieces.list_names.Statement.{statement}
 use Rattle.listing.proofs.pieces.list_names.Tie as tie
@@ -28,38 +27,18 @@ returns-2 c =
 passed : (c : tie.Else1) → sound (c .before .before .before .before .args .t .now) ≡ true
 passed c = sym (c .before .sound .ensures) ∙ not-false (c .before .sound .result) (c .if1 .left)
 
-start-requires : tie.Need-start-requires
-start-requires c κs =
-    let tidy = sound-facts (c .before .before .before .before .before .args .t .now) (passed (c .before)) .tidy in
-    omega arith
-
-cast-r : tie.Need-cast-r
-cast-r c = search needs
-
-list-row-requires : tie.Need-list-row-requires
-list-row-requires c κs =
-    let s = c .before .before .before .before .before .before .before .args in
-    let tidy = sound-facts (s .t .now) (passed (c .before .before .before)) .tidy in
-    (tidy, rw (c .before .start .ensures) (start-named (s .t .now) tidy (s .m) (omega arith)))
+list-mission-requires : tie.Need-list-mission-requires
+list-mission-requires c κs =
+    let s = c .before .before .before .before .before .before .args in
+    (sound-facts (s .t .now) (passed (c .before .before)) .tidy, omega arith)
 
 same-length : tie.Need-same-length
 same-length c = search needs
 
 returns-3 : tie.Need-returns-3
 returns-3 c =
-    let s = c .before .before .before .before .before .before .before .before .before .before .args in
-    let names = listed-names (s .t .now) (s .m) (passed (c .before .before .before .before .before .before)) (omega arith) in
-    rw (names, ← c .before .before .before .before .start .ensures) (c .before .before .list-row .ensures)
+    let s = c .before .before .before .before .before .before .before .before .before .args in
+    rw (listed-names (s .t .now) (s .m) (passed (c .before .before .before .before .before)) (omega arith)) (c .before .before .list-mission .ensures)
 
 pub list-names-spec : {M : Type 1} → statement M
-list-names-spec =
-    tie.close
-    (tie.spec
-    sound-requires
-    returns
-    returns-2
-    start-requires
-    cast-r
-    list-row-requires
-    same-length
-    returns-3)
+list-names-spec = tie.close (tie.spec sound-requires returns returns-2 list-mission-requires same-length returns-3)

@@ -1,0 +1,2 @@
+-- That an answer's number and values tell the answer. Assumes nothing.
+pub mod Again

@@ -1,0 +1,2 @@
+-- The answers of the calls. Assumes nothing.
+pub mod Replies

@@ -1,0 +1,53 @@
+-- The number and the values of every case of an answer. Assumes nothing.
+use Prim.Native.Nat.{ℕ}
+use Rattle.model.specs.Call.{Outcome}
+use Rattle.answers.specs.declared.cases.Refusal.{Refusal}
+use Rattle.answers.specs.declared.cases.Refusal.the-variants.{Length, Mission, Operation, Name, List, Buffer, NotSound, NotEmpty, TooMany, NotUnder, NoRoom}
+use Rattle.answers.specs.declared.cases.Answer.{Answer}
+use Rattle.answers.specs.declared.cases.Answer.the-variants as answer
+use Rattle.answers.specs.declared.cases.Asked.{Asked}
+use Rattle.answers.specs.declared.cases.Asked.the-variants as asked
+use Rattle.answers.specs.declared.cases.Following.{Following}
+use Rattle.answers.specs.declared.cases.Following.the-variants as following
+use Rattle.answers.specs.declared.replies.Reply.{Reply}
+
+-- 01, "Refusal numbers"
+abbrev pub refusalNumber : Refusal → ℕ
+refusalNumber Length = 1
+refusalNumber Mission = 2
+refusalNumber Operation = 3
+refusalNumber Name = 4
+refusalNumber List = 5
+refusalNumber Buffer = 6
+refusalNumber NotSound = 7
+refusalNumber NotEmpty = 8
+refusalNumber TooMany = 9
+refusalNumber NotUnder = 10
+refusalNumber NoRoom = 11
+
+-- "Each call answers a number and a value"; next also a second value, which is 0 of every other call
+abbrev pub done : ℕ → Reply
+done value = record { number = 0; value = value; second = 0 }
+
+-- "A refusal has value 0 (next: both values 0)"
+abbrev pub refused : Refusal → Reply
+refused r = record { number = refusalNumber r; value = 0; second = 0 }
+
+abbrev pub answerReply : Answer → Reply
+answerReply (answer.Done value) = done value
+answerReply (answer.Refused r) = refused r
+
+-- "ask 1 or 0."
+abbrev pub askReply : Asked → Reply
+askReply asked.OnList = done 1
+askReply asked.NotOnList = done 0
+askReply (asked.Refused r) = refused r
+
+-- next's values: the letters that may follow as a sum, and their number
+abbrev pub nextReply : Following → Reply
+nextReply (following.Letters set count) = record { number = 0; value = set; second = count }
+nextReply (following.Refused r) = refused r
+
+-- what the model says
+abbrev pub replyOf : Outcome → Reply
+replyOf o = record { number = o .number; value = o .value; second = o .second }

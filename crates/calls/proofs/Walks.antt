@@ -1,0 +1,72 @@
+-- On a sound book ask and next by the walk are the model's. The refusals are the same; where none applies, the mission is one of the sixteen
+-- and the bytes are a word of letters, and there the walk says what the plain set says. Assumes nothing.
+use Prim.Native.Nat.{ℕ, zero, suc, _<_}
+use native.Mathlib.Omega.{arith}
+use mathlib.Core.Path.{_≡_, refl, _∙_}
+use mathlib.Core.Bool.{true, false}
+use mathlib.Core.List.{List}
+use borrow.Author.Tests.{ltb-false, not-false}
+use Rattle.letters.specs.Words.{wordOf}
+use Rattle.letters.specs.Names.{isName, isPrefix}
+use Rattle.letters.proofs.Words.{name-parts, prefix-parts}
+use Rattle.letters.proofs.LetterSet.{sum-agree, count-agree}
+use Rattle.sets.proofs.Membership.{In, here, there, fails}
+use Rattle.model.specs.Lists.{lastMission, missions}
+use Rattle.model.specs.Call.{Book, Call, Outcome}
+use Rattle.model.specs.Call.Call.{ask, next}
+use Rattle.model.specs.Refusals.{Refusal, given, badMission, noName, noPrefix}
+use Rattle.model.specs.Run.{rule, outcome, run}
+use Rattle.model.proofs.Refusals.{lowest-given}
+use Rattle.rows.specs.Table.{Table}
+use Rattle.rows.specs.Rules.{sound}
+use Rattle.minimal.proofs.Theorems.{sound-ask, sound-next}
+use Rattle.answers.specs.declared.cases.Asked.{Asked}
+use Rattle.answers.specs.declared.cases.Following.{Following}
+use Rattle.answers.specs.Replies.{askReply, nextReply, replyOf}
+use Rattle.calls.specs.Promises.{Asks, Follows}
+use Rattle.calls.specs.Books.{bookOf, askWalk, nextWalk}
+
+-- what a call comes to when done decides only where nothing refuses it
+same-outcome : (b : Book) (n : ℕ) (d e : Outcome) → (n ≡ 0 → d ≡ e) → outcome b n d ≡ outcome b n e
+same-outcome b zero d e f = f refl
+same-outcome b (suc n) d e f = refl
+
+-- where nothing refuses a call, none of its refusals applies
+none-applies : (b : Book) (call : Call) (r : Refusal) → In r (rule b call .refusals) → given (rule b call .refusals) ≡ 0 → r .applies ≡ false
+none-applies b call r i none = fails (r .applies) (λ e. omega (arith, lowest-given b call .lowest r i e .0))
+
+mission-below : (b : Book) (call : Call) (m : ℕ) → In (badMission m) (rule b call .refusals) → given (rule b call .refusals) ≡ 0 → m < missions
+mission-below b call m i none = omega (arith, ltb-false lastMission m (none-applies b call (badMission m) i none))
+
+module _ (t : Table) (m : ℕ) (bytes : List ℕ) where
+  abbrev b : Book
+  b = bookOf t
+
+  -- On a sound book ask by the walk is the model's ask, for every mission number and all bytes; and so is next.
+  pub ask-run : sound t ≡ true → askWalk t m bytes ≡ run (bookOf t) (ask m bytes)
+  unfolding run
+  ask-run e =
+      let call = ask m bytes in
+      same-outcome b (given (rule b call .refusals)) _ _
+      (λ none.
+      let mission = mission-below b call m (there (here refl)) none in
+      let name = not-false (isName bytes) (none-applies b call (noName bytes) (there (there (here refl))) none) in
+      rw (sound-ask t e m mission (wordOf bytes) (name-parts bytes name .2)))
+
+  pub next-run : sound t ≡ true → nextWalk t m bytes ≡ run (bookOf t) (next m bytes)
+  unfolding run
+  next-run e =
+      let call = next m bytes in
+      same-outcome b (given (rule b call .refusals)) _ _
+      (λ none.
+      let mission = mission-below b call m (there (here refl)) none in
+      let prefix = not-false (isPrefix bytes) (none-applies b call (noPrefix bytes) (there (there (here refl))) none) in
+      let same = sound-next t e m mission (wordOf bytes) (prefix-parts bytes prefix .1) in
+      rw (sum-agree _ _ _ same, count-agree _ _ _ same))
+
+  -- so what ask and next say on any numbers is all that they promise
+  pub walk-asks : (a : Asked) → askReply a ≡ replyOf (askWalk t m bytes) → Asks t m bytes a
+  walk-asks a walks = record { walks = walks; plain = λ e. walks ∙ rw (ask-run e) }
+
+  pub walk-follows : (a : Following) → nextReply a ≡ replyOf (nextWalk t m bytes) → Follows t m bytes a
+  walk-follows a walks = record { walks = walks; plain = λ e. walks ∙ rw (next-run e) }

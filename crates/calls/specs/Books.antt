@@ -1,0 +1,38 @@
+-- What a call finds in a table, and what ask and next say of any table. Assumes nothing.
+use Prim.Native.Nat.{ℕ}
+use mathlib.Core.List.{List, []}
+use Rattle.letters.specs.Letters.{letters}
+use Rattle.letters.specs.Words.{wordOf}
+use Rattle.letters.specs.LetterSet.{flag, sumOf, countOf}
+use Rattle.model.specs.Call.{Book, Outcome}
+use Rattle.model.specs.Rules.{answers, askRule, nextRule}
+use Rattle.model.specs.Run.{ruled}
+use Rattle.rows.specs.Table.{Table, lengthOk, room, start}
+use Rattle.rows.specs.Walk.{accepts, follows}
+use Rattle.rows.specs.Words.{lists}
+use Rattle.rows.specs.Rules.{sound}
+
+abbrev pub bookOf : Table → Book
+bookOf t = record { lengthOk = lengthOk t; sound = sound t; room = room t; lists = lists t }
+
+-- "ask and next work on any numbers": the refusals are the model's, and the walk answers.
+-- "ask says 1 exactly when the walk ends on a row with mark 2."
+abbrev pub askWalk : Table → ℕ → List ℕ → Outcome
+askWalk t m name =
+    let b = bookOf t in
+    ruled b
+    (record {
+      refusals = askRule b m name .refusals;
+      done = answers b (flag (accepts t (wordOf name) (start t m)));
+    })
+
+-- "next reports each letter whose target is a row."
+abbrev pub nextWalk : Table → ℕ → List ℕ → Outcome
+nextWalk t m prefix =
+    let b = bookOf t in
+    let test = follows t (wordOf prefix) (start t m) in
+    ruled b
+    (record {
+      refusals = nextRule b m prefix .refusals;
+      done = record { number = 0; value = sumOf letters test; second = countOf letters test; written = []; lists = b .lists };
+    })
