@@ -20,7 +20,6 @@ use Rattle.rows.specs.Table.{Table, start}
 use Rattle.rows.specs.Words.{words, names, lists}
 use Rattle.rows.proofs.Words.{words-short}
 use Rattle.rows.proofs.Books.{list-names}
-use Rattle.counting.proofs.Ahead.{count-inside}
 use Rattle.answers.specs.declared.cases.Refusal.{Refusal}
 use Rattle.answers.specs.declared.cases.Answer.the-variants as answer
 use Rattle.answers.specs.Replies.{refusalNumber}

@@ -6,7 +6,6 @@ use Prim.Native.Nat.{ℕ, zero, suc, _+_, _≤_, _<_}
 use native.Mathlib.Omega.{arith}
 use mathlib.Core.Path.{_≡_, refl, _∙_}
 use mathlib.Core.Bool.{Bool, true, false, cond}
-use mathlib.Core.Logic.{inl, inr}
 use mathlib.Core.List.{List, [], _∷_, _++_}
 use lib.ListN.{length, length-append, length-map}
 use lib.Seq.{getD-append-add}
@@ -21,7 +20,7 @@ use Rattle.sets.specs.Cut.{most}
 use Rattle.sets.proofs.Membership.{keep-append}
 use Rattle.sets.proofs.Below.{total-agree, total-one, total-skip, length-over, over-at, keep-over}
 use Rattle.model.specs.Lists.{rankOf, nthOf}
-use Rattle.rows.specs.Table.{Table, rowCount, target, ends}
+use Rattle.rows.specs.Table.{Table, target, ends}
 use Rattle.rows.specs.Walk.{hasArc}
 use Rattle.rows.specs.Words.{behind, words}
 use Rattle.rows.specs.Tidy.{Used, Named, Tidy}

@@ -7,7 +7,7 @@ use rows::row_count;
 use rows::start;
 use rows::target;
 use walking::ends;
-ghost use Prim.Native.Nat.{suc, _+_, _*_, _≤_, _<_};
+ghost use Prim.Native.Nat.{suc, _≤_, _<_};
 ghost use mathlib.Core.Path.{_≡_};
 ghost use lib.ListN.{length};
 ghost use Rattle.letters.specs.Letters.{letters};

@@ -4,3 +4,4 @@ pub mod Lines
 pub mod Steps
 pub mod Spelling
 pub mod Listed
+pub mod Tight

@@ -1,7 +1,6 @@
 -- `with_arc` meets its promise: the branch settles whether the letter's target is a row. Assumes nothing.
-use mathlib.Core.Path.{_≡_, sym, _∙_}
+use mathlib.Core.Path.{sym, _∙_}
 use borrow.Author.Needs.{needs}
-use borrow.Author.Tests.{not-true, not-false}
 use native.Mathlib.Omega.{arith}
 use Rattle.rows.proofs.Facts.{row-inside}
 use Rattle.walking.proofs.walk.with_arc.Statement.{statement}
