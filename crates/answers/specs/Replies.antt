@@ -2,7 +2,8 @@
 use Prim.Native.Nat.{ℕ}
 use Rattle.model.specs.Call.{Outcome}
 use Rattle.answers.specs.declared.cases.Refusal.{Refusal}
-use Rattle.answers.specs.declared.cases.Refusal.the-variants.{Length, Mission, Operation, Name, List, Buffer, NotSound, NotEmpty, TooMany, NotUnder, NoRoom}
+use Rattle.answers.specs.declared.cases.Refusal.the-variants.{Length, Mission, Operation, Name, List, Buffer}
+use Rattle.answers.specs.declared.cases.Refusal.the-variants.{NotSound, NotEmpty, TooMany, NotUnder, NoRoom}
 use Rattle.answers.specs.declared.cases.Answer.{Answer}
 use Rattle.answers.specs.declared.cases.Answer.the-variants as answer
 use Rattle.answers.specs.declared.cases.Asked.{Asked}

@@ -1,34 +1,45 @@
 // What the calls answer. specs/Replies.antt gives 01's number and values for every case.
 
-// Why a call was refused: 01's "Refusal numbers" 1 to 11.
+// Why a call was refused, in the order of 01's "Refusal numbers", from 1 to 11.
 pub enum Refusal {
+    // "slice length not 40k with k from 27 to 1,026"
     Length,
+    // "a mission number over 15"
     Mission,
+    // "operation not 1, 2 or 3"
     Operation,
+    // "no name (next: no prefix) by the rules above"
     Name,
+    // "no list by the rules above"
     List,
+    // "answer buffer under 24 bytes"
     Buffer,
+    // "book not sound"
     NotSound,
+    // "receiving list not empty"
     NotEmpty,
+    // "the list has over 60,000 names"
     TooMany,
+    // "n is not under the count"
     NotUnder,
+    // "the sixteen lists after the change need more states than room"
     NoRoom,
 }
 
-// A call that answers a number and a value.
+// "Each call answers a number and a value."
 pub enum Answer {
     Done(u32),
     Refused(Refusal),
 }
 
-// ask.
+// ask: "is a name on a mission's list?"
 pub enum Asked {
     OnList,
     NotOnList,
     Refused(Refusal),
 }
 
-// next: the letters that may follow as a set, and their number.
+// next: "which letters may follow", as a set, and their number.
 pub enum Following {
     Letters { set: u64, count: u32 },
     Refused(Refusal),

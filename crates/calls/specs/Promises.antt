@@ -20,7 +20,7 @@ use Rattle.calls.specs.Books.{bookOf, askWalk, nextWalk}
 abbrev pub Answers : Table → Call → Answer → Type 0
 Answers t call a = answerReply a ≡ replyOf (run (bookOf t) call)
 
--- "empty: make an empty book of the slice": "empty sets every number to 0"
+-- "empty: make an empty book of the slice": "empty sets every number to 0", and a refusal "changes no number of the table"
 pub record Empties (t after : Table) (a : Answer) : Type 0 where
   pub answers : Answers t empty a
   pub table : after ≡ cond (lengthOk t) (replicate (length t) 0) t
@@ -37,7 +37,7 @@ pub record Follows (t : Table) (m : ℕ) (prefix : List ℕ) (a : Following) : T
   pub walks : nextReply a ≡ replyOf (nextWalk t m prefix)
   pub plain : sound t ≡ true → nextReply a ≡ replyOf (run (bookOf t) (next m prefix))
 
--- nth writes a name to the front of the buffer: "later bytes stay"
+-- nth's name "stands at the front of the buffer; later bytes stay", and a refusal changes "no byte of an answer buffer"
 pub record Writes (t : Table) (m n : ℕ) (before after : List ℕ) (a : Answer) : Type 0 where
   pub answers : Answers t (nth m n (length before)) a
   pub buffer : after ≡ overlaid (run (bookOf t) (nth m n (length before)) .written) before

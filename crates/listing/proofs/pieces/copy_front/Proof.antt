@@ -1,4 +1,4 @@
--- `copy_front` meets its contract. The loop's invariant: of the buffer the first i bytes are those of the slice, and no others are written.
+-- `copy_front` meets its promise. The loop's invariant: of the buffer the first i bytes are those of the slice, and no others are written.
 -- The measure is what is left of n. Assumes nothing.
 use Prim.Native.Nat.{_-_, _≤_, _<_}
 use native.Mathlib.Numerals.{add-one}

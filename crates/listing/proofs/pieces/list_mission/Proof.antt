@@ -1,4 +1,4 @@
--- `list_mission` meets its contract: the number of names tells whether there are over 60,000, and the branch settles which. Assumes nothing.
+-- `list_mission` meets its promise: the number of names tells whether there are over 60,000, and the branch settles which. Assumes nothing.
 use Prim.Native.Nat.{_≤_}
 use native.Mathlib.Omega.{arith}
 use borrow.Author.Needs.{needs}

@@ -1,4 +1,4 @@
--- `list_names` meets its contract: the branches settle whether the book is sound and the mission one of the sixteen. Assumes nothing.
+-- `list_names` meets its promise: the branches settle whether the book is sound and the mission one of the sixteen. Assumes nothing.
 use native.Mathlib.Omega.{arith}
 use mathlib.Core.Path.{_≡_, sym, _∙_}
 use mathlib.Core.Bool.{true}

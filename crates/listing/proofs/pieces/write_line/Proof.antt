@@ -1,4 +1,4 @@
--- `write_line` meets its contract: what fits of the one name is its line or nothing, and the branch settles which. Assumes nothing.
+-- `write_line` meets its promise: what fits of the one name is its line or nothing, and the branch settles which. Assumes nothing.
 use native.Mathlib.Omega.{arith}
 use borrow.Author.Needs.{needs}
 use lib.ListN.{length-map}

@@ -1,4 +1,4 @@
--- `write_lines` meets its contract. The loop's invariant: so many names and bytes are written, and n and the names are no more than n or the
+-- `write_lines` meets its promise. The loop's invariant: so many names and bytes are written, and n and the names are no more than n or the
 -- end. The measure is the names that are left. Assumes nothing.
 use Prim.Native.Nat.{_+_, _-_, _≤_, max}
 use native.Mathlib.Omega.{arith}

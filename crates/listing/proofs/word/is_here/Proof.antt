@@ -1,4 +1,4 @@
--- `is_here` meets its contract: the first branch settles whether a name may end at the row, and then n decides. Assumes nothing.
+-- `is_here` meets its promise: the first branch settles whether a name may end at the row, and then n decides. Assumes nothing.
 use mathlib.Core.Path.{sym, _∙_}
 use borrow.Author.Needs.{needs}
 use borrow.Author.Tests.{not-true, not-false}

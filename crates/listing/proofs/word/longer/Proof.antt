@@ -1,4 +1,4 @@
--- `longer` meets its contract: the branch settles whether the empty word is among the words. Assumes nothing.
+-- `longer` meets its promise: the branch settles whether the empty word is among the words. Assumes nothing.
 use native.Mathlib.Omega.{arith}
 use mathlib.Core.Path.{sym, _∙_}
 use borrow.Author.Needs.{needs}

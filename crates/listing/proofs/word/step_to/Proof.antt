@@ -1,4 +1,4 @@
--- `step_to` meets its contract. The loop's invariant: it stands at a letter with an arc, the set has the arcs from there on, the words of lower
+-- `step_to` meets its promise. The loop's invariant: it stands at a letter with an arc, the set has the arcs from there on, the words of lower
 -- letters are passed, and `here` is the number of words behind this one. The measure is the letters that are left. Assumes nothing.
 use Prim.Native.Nat.{_-_, _<_}
 use native.Mathlib.Omega.{arith}

@@ -1,4 +1,4 @@
--- `write_word` meets its contract. The loop's invariant: the word is begun, and the rest of it is at the row. The measure is the row's height,
+-- `write_word` meets its promise. The loop's invariant: the word is begun, and the rest of it is at the row. The measure is the row's height,
 -- which falls to the target of a letter. Assumes nothing.
 use native.Mathlib.Omega.{arith}
 use mathlib.Core.Path.{sym, _∙_}
