@@ -10,6 +10,7 @@ mod sets;
 pub use bytes::LETTERS;
 pub use bytes::byte_of;
 pub use bytes::letter_of;
+pub use lists::LINE_END;
 pub use lists::is_list;
 pub use lists::name_at;
 pub use lists::name_end;

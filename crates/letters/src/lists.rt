@@ -7,7 +7,8 @@ ghost use Rattle.letters.specs.Each.{every};
 ghost use Rattle.letters.specs.Names.{isName};
 ghost use Rattle.letters.specs.Lists.{nameAt, nameEnd, linesOf, ended, rises, namesOf, isList};
 
-const LINE_END: u8 = 0x0A;
+// "each name followed by 0x0A".
+pub const LINE_END: u8 = 0x0A;
 
 // The most bytes of a list.
 const LONGEST_LIST: usize = 65535;

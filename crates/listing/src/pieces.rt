@@ -3,6 +3,7 @@ use super::word::write_word;
 use counting::MOST;
 use counting::count_at;
 use counting::count_names;
+use letters::LINE_END;
 use letters::LONGEST;
 use rows::MISSIONS;
 use rows::MOST_ROWS;
@@ -18,8 +19,6 @@ ghost use Rattle.rows.specs.Words.{words, names};
 ghost use Rattle.rows.specs.Tidy.{Tidy};
 ghost use Rattle.listing.specs.Steps.{Listable};
 ghost use Rattle.listing.specs.Pieces.{lines, fitting, unlessOver, piece, Written};
-
-const LINE_END: u8 = 0x0A;
 
 // How many names were written, and how many bytes.
 pub struct Piece {
