@@ -12,6 +12,7 @@ use Rattle.rows.specs.Walk.{accepts, follows}
 use Rattle.rows.specs.Words.{lists}
 use Rattle.rows.specs.Rules.{sound}
 
+-- what a call finds in a table
 abbrev pub bookOf : Table → Book
 bookOf t = record { lengthOk = lengthOk t; sound = sound t; room = room t; lists = lists t }
 
@@ -26,7 +27,7 @@ askWalk t m name =
       done = answers b (flag (accepts t (wordOf name) (start t m)));
     })
 
--- "next reports each letter whose target is a row."
+-- "next reports each letter whose target is a row." "The number of letters that may follow is also answered."
 abbrev pub nextWalk : Table → ℕ → List ℕ → Outcome
 nextWalk t m prefix =
     let b = bookOf t in

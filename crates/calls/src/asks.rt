@@ -4,9 +4,8 @@ use answers::Refusal;
 use letters::is_name;
 use rows::MISSIONS;
 use rows::length_ok;
-use rows::start;
 use walking::ends;
-use walking::walk_to;
+use walking::walk_list;
 ghost use Rattle.calls.specs.Promises.{Asks};
 
 pub fn ask(t: &[u16], m: u32, name: &[u8]) -> Asked
@@ -21,8 +20,7 @@ pub fn ask(t: &[u16], m: u32, name: &[u8]) -> Asked
     if !is_name(name) {
         return Asked::Refused(Refusal::Name);
     }
-    let first = start(t, m as usize) as usize;
-    let r = walk_to(t, first, name);
+    let r = walk_list(t, m as usize, name);
     if ends(t, r) {
         Asked::OnList
     } else {

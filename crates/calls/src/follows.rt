@@ -5,9 +5,8 @@ use letters::is_prefix;
 use letters::letter_count;
 use rows::MISSIONS;
 use rows::length_ok;
-use rows::start;
 use walking::letter_set;
-use walking::walk_to;
+use walking::walk_list;
 ghost use Rattle.calls.specs.Promises.{Follows};
 
 pub fn next(t: &[u16], m: u32, prefix: &[u8]) -> Following
@@ -22,8 +21,7 @@ pub fn next(t: &[u16], m: u32, prefix: &[u8]) -> Following
     if !is_prefix(prefix) {
         return Following::Refused(Refusal::Name);
     }
-    let first = start(t, m as usize) as usize;
-    let r = walk_to(t, first, prefix);
+    let r = walk_list(t, m as usize, prefix);
     let set = letter_set(t, r);
     Following::Letters {
         set,

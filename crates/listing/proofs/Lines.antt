@@ -15,7 +15,7 @@ use Rattle.letters.specs.Words.{Word, bytesOf}
 use Rattle.sets.specs.Sets.{Words}
 use Rattle.model.specs.Lists.{nthOf}
 use Rattle.model.specs.Call.{overlaid}
-use Rattle.listing.specs.Pieces.{line, lines, fitting, Written}
+use Rattle.listing.specs.Pieces.{line, lines, fitting, lineIn, Written}
 use Rattle.listing.proofs.Buffers.{Front, front-none, front-more, take-more, front-overlaid, overlaid-front, overlaid-take, lent, back}
 use Rattle.listing.proofs.Buffers.{length-lent, lent-back, lent-unwritten, front-lent, take-lent}
 
@@ -31,18 +31,18 @@ fits-none : (size : ℕ) (w : Word) (l : Words) → size ≤ length w → fittin
 unfolding fitting
 fits-none size w l h = rw (lt-leb (length (line w)) size (omega (arith, length-line w)))
 
-line-fits : (size : ℕ) (w : Word) → length w < size → lines (fitting size (w ∷ [])) ≡ line w
+line-fits : (size : ℕ) (w : Word) → length w < size → lineIn size w ≡ line w
 unfolding fitting lines
 line-fits size w h = ap lines (fits-more size w [] h) ∙ append-nil (line w)
 
-line-out : (size : ℕ) (w : Word) → size ≤ length w → lines (fitting size (w ∷ [])) ≡ []
+line-out : (size : ℕ) (w : Word) → size ≤ length w → lineIn size w ≡ []
 unfolding lines
 line-out size w h = ap lines (fits-none size w [] h)
 
 -- a name is written to the front of the buffer, and the line's end behind it, or nothing
 pub line-written : (w : Word) (before other : List ℕ) {i : ℕ} {word after : List ℕ} → i ≡ length w → word ≡ overlaid (bytesOf w) other
     → i < length before → after ≡ overlaid (take i word) before
-    → (i + 1 ≡ length (lines (fitting (length before) (w ∷ [])))) × (set after i lineEnd ≡ overlaid (lines (fitting (length before) (w ∷ []))) before)
+    → (i + 1 ≡ length (lineIn (length before) w)) × (set after i lineEnd ≡ overlaid (lineIn (length before) w) before)
 line-written w before other {i} {word} {after} long spelled room copied =
     let size : length (bytesOf w) ≡ i = length-map w byteOf ∙ sym long in
     let bytes : take i word ≡ bytesOf w = rw spelled (overlaid-take i (bytesOf w) other size) in
@@ -54,7 +54,7 @@ line-written w before other {i} {word} {after} long spelled room copied =
     rw (line-fits (length before) w (omega arith)) (sym end, front-overlaid (front-more lineEnd front) whole end)
 
 pub line-not-written : (w : Word) (buffer : List ℕ) → length buffer ≤ length w
-    → (0 ≡ length (lines (fitting (length buffer) (w ∷ [])))) × (buffer ≡ overlaid (lines (fitting (length buffer) (w ∷ []))) buffer)
+    → (0 ≡ length (lineIn (length buffer) w)) × (buffer ≡ overlaid (lineIn (length buffer) w) buffer)
 line-not-written w buffer full = rw (line-out (length buffer) w full) (refl, refl)
 
 -- some names of the list are written: what fits of it is these, and what fits of the others into the bytes that are left
@@ -93,8 +93,8 @@ module _ {l : Words} {before after : List ℕ} {names bytes : ℕ} (s : SoFar l 
     next : drop names l ≡ w ∷ drop (names + 1) l
     next = drop-cons l names [] there ∙ rw (e, add-one)
 
-    abbrev fit : Words
-    fit = fitting (length (lent bytes after)) (w ∷ [])
+    abbrev part-line : List ℕ
+    part-line = lineIn (length (lent bytes after)) w
 
     room : length (lent bytes after) ≡ length before - bytes
     room = rw (length-lent, s .front .long)
@@ -117,7 +117,7 @@ module _ {l : Words} {before after : List ℕ} {names bytes : ℕ} (s : SoFar l 
           counted = s .counted ∙ rw more (omega arith);
         })
 
-    module _ {k : ℕ} {part : List ℕ} (long : k ≡ length (lines fit)) (wrote : part ≡ overlaid (lines fit) (lent bytes after)) where
+    module _ {k : ℕ} {part : List ℕ} (long : k ≡ length part-line) (wrote : part ≡ overlaid part-line (lent bytes after)) where
       pub one-more : (k ≡ 0 → ⊥) → SoFar l before (back bytes after part) (names + 1) (bytes + k)
       one-more some =
           elim (decLt (length w) (length (lent bytes after))) [

@@ -20,6 +20,7 @@ use Rattle.listing.specs.declared.pieces.Piece.{Piece}
 abbrev pub line : Word → List ℕ
 line w = bytesOf w ++ lineEnd ∷ []
 
+-- one line after another
 unfoldable pub lines : Words → List ℕ
 lines [] = []
 lines (w ∷ l) = line w ++ lines l
@@ -28,6 +29,10 @@ lines (w ∷ l) = line w ++ lines l
 unfoldable pub fitting : ℕ → Words → Words
 fitting size [] = []
 fitting size (w ∷ l) = cond (leb (length (line w)) size) (w ∷ fitting (size - length (line w)) l) []
+
+-- the line of one name, or nothing where it does not fit
+abbrev pub lineIn : ℕ → Word → List ℕ
+lineIn size w = lines (fitting size (w ∷ []))
 
 -- nothing of a list that "has over 60,000 names"
 abbrev pub unlessOver : Words → Words

@@ -11,14 +11,13 @@ use rows::start;
 use rules::sound;
 ghost use Prim.Native.Nat.{_≤_, _<_};
 ghost use mathlib.Core.Path.{_≡_};
-ghost use mathlib.Core.List.{[], _∷_};
 ghost use lib.ListN.{length, take, drop};
 ghost use Rattle.model.specs.Lists.{missions, nthOf};
 ghost use Rattle.model.specs.Call.{overlaid};
 ghost use Rattle.rows.specs.Words.{words, names};
 ghost use Rattle.rows.specs.Tidy.{Tidy};
 ghost use Rattle.listing.specs.Steps.{Listable};
-ghost use Rattle.listing.specs.Pieces.{lines, fitting, unlessOver, piece, Written};
+ghost use Rattle.listing.specs.Pieces.{fitting, lineIn, unlessOver, piece, Written};
 
 // How many names were written, and how many bytes.
 pub struct Piece {
@@ -42,8 +41,8 @@ fn copy_front(from: &[u8], n: usize, out: &mut [u8])
 // it fits whole. Says how many bytes that is, 0 where it does not fit.
 fn write_line(t: &[u16], r: usize, n: u32, counts: &[u16], out: &mut [u8]) -> usize
     requires { ⌜ Listable (now t) (now counts) r × (n < length (words (now t) r)) ⌝ }
-    ensures long { λ k. ⌜ k ≡ length (lines (fitting (length (now (out .entry))) (nthOf n (words (now (t .entry)) r) ∷ []))) ⌝ }
-    ensures buffer { λ k. ⌜ now (out .exit) ≡ overlaid (lines (fitting (length (now (out .entry))) (nthOf n (words (now (t .entry)) r) ∷ []))) (now (out .entry)) ⌝ }
+    ensures long { λ k. ⌜ k ≡ length (lineIn (length (now (out .entry))) (nthOf n (words (now (t .entry)) r))) ⌝ }
+    ensures buffer { λ k. ⌜ now (out .exit) ≡ overlaid (lineIn (length (now (out .entry))) (nthOf n (words (now (t .entry)) r))) (now (out .entry)) ⌝ }
 {
     let mut word = [0u8; LONGEST];
     let long = write_word(t, r, n, counts, &mut word);

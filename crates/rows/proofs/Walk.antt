@@ -1,12 +1,12 @@
 -- The first step of a word in a table, whatever its numbers are: from what is no row the walk ends nowhere, and from a row it goes on from the
--- target of the first letter with the rest of the word. What ask and next say of the end of a walk follows. Assumes nothing.
+-- target of the first letter with the rest of the word. What ask says of the end of a walk follows. Assumes nothing.
 use Prim.Native.Nat.{ℕ}
 use mathlib.Core.Path.{_≡_, refl}
 use mathlib.Core.Bool.{Bool, true, false, cond}
 use mathlib.Core.List.{[], _∷_}
 use Rattle.letters.specs.Words.{Word}
 use Rattle.rows.specs.Table.{Table, isRow, target, ends}
-use Rattle.rows.specs.Walk.{walk, walkFrom, accepts, hasArc, follows}
+use Rattle.rows.specs.Walk.{walk, walkFrom, accepts}
 
 module _ (t : Table) (n : ℕ) where
   pub walk-none : isRow t n ≡ false → (w : Word) → walkFrom t w n .row ≡ 0
@@ -27,29 +27,15 @@ module _ (t : Table) (n : ℕ) where
       go true = refl
       go false = refl
 
-  -- a test that fails at what is no row says of the end of the empty walk what it says of where it began
-  says-empty : (says : ℕ → Bool) → says 0 ≡ false → (isRow t n ≡ false → says n ≡ false) → says (walkFrom t [] n .row) ≡ says n
-  says-empty says nowhere none = go (isRow t n) refl
-    where
-      go : (b : Bool) → isRow t n ≡ b → says (walkFrom t [] n .row) ≡ says n
-      go true e = rw (walk-empty e)
-      go false e = rw (walk-none e [], nowhere, none e)
-
   pub none-accepted : isRow t n ≡ false → (w : Word) → accepts t w n ≡ false
   none-accepted e w = rw (walk-none e w)
 
   pub accepts-empty : accepts t [] n ≡ ends t n
-  accepts-empty = says-empty (λ r. ends t r) refl (λ e. rw e)
+  accepts-empty = go (isRow t n) refl
+    where
+      go : (b : Bool) → isRow t n ≡ b → accepts t [] n ≡ ends t n
+      go true e = rw (walk-empty e)
+      go false e = rw (walk-none e [], e)
 
   pub accepts-step : isRow t n ≡ true → (x : ℕ) (w : Word) → accepts t (x ∷ w) n ≡ accepts t w (target t n x)
   accepts-step e x w = rw (walk-step e x w)
-
-  module _ (x : ℕ) where
-    pub none-follows : isRow t n ≡ false → (u : Word) → follows t u n x ≡ false
-    none-follows e u = rw (walk-none e u)
-
-    pub follows-empty : follows t [] n x ≡ hasArc t n x
-    follows-empty = says-empty (λ r. hasArc t r x) refl (λ e. rw e)
-
-    pub follows-step : isRow t n ≡ true → (y : ℕ) (u : Word) → follows t (y ∷ u) n x ≡ follows t u (target t n y) x
-    follows-step e y u = rw (walk-step e y u)

@@ -4,4 +4,4 @@ mod walk;
 
 pub use walk::ends;
 pub use walk::letter_set;
-pub use walk::walk_to;
+pub use walk::walk_list;

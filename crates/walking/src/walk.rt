@@ -4,19 +4,21 @@ use letters::letter_of;
 use letters::with_letter;
 use rows::is_row;
 use rows::mark;
+use rows::start;
 use rows::target;
 ghost use Prim.Native.Nat.{_+_, _*_, _^_, _<_};
 ghost use mathlib.Core.Path.{_≡_};
 ghost use mathlib.Core.Bool.{true};
+ghost use lib.ListN.{length};
 ghost use Rattle.letters.specs.Letters.{letters};
 ghost use Rattle.letters.specs.Words.{Spelled, wordOf};
 ghost use Rattle.letters.specs.LetterSet.{flag, sumOf};
-ghost use Rattle.rows.specs.Table.{isRow, ends};
+ghost use Rattle.rows.specs.Table.{isRow, start, ends};
 ghost use Rattle.rows.specs.Walk.{walkFrom, hasArc};
 
 // The row where the walk of the word from n ends, or 0. "Each step goes on with what is left of the
 // word after the letters walked."
-pub fn walk_to(t: &[u16], n: usize, name: &[u8]) -> usize
+fn walk_to(t: &[u16], n: usize, name: &[u8]) -> usize
     requires { ⌜ Spelled (wordOf (now name)) ⌝ }
     ensures { λ r. ⌜ r ≡ walkFrom (now (t .entry)) (wordOf (now (name .entry))) n .row ⌝ }
 {
@@ -29,6 +31,15 @@ pub fn walk_to(t: &[u16], n: usize, name: &[u8]) -> usize
     let x = letter_of(name[0]);
     let next = target(t, n, x) as usize;
     walk_to(t, next, &name[1..])
+}
+
+// The row where the walk of the word from the mission's start ends, or 0.
+pub fn walk_list(t: &[u16], m: usize, name: &[u8]) -> usize
+    requires { ⌜ (m < length (now t)) × Spelled (wordOf (now name)) ⌝ }
+    ensures { λ r. ⌜ r ≡ walkFrom (now (t .entry)) (wordOf (now (name .entry))) (start (now (t .entry)) m) .row ⌝ }
+{
+    let first = start(t, m) as usize;
+    walk_to(t, first, name)
 }
 
 // May a name end at n?

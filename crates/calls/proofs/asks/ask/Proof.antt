@@ -28,12 +28,12 @@ name-fine c = sym (c .before .is-name .ensures) ∙ not-false _ (c .if3 .left)
 
 -- where nothing refuses, the last test answers
 answered : (c : tie.After-ends) →
-    let args = c .before .before .before .before .before .before .before .before .before .before .args in
+    let args = c .before .before .before .before .before .before .before .before .before .args in
     replyOf (askWalk (args .t .now) (args .m) (args .name .now)) ≡ done (flag (c .ends .result))
 answered c =
-    let named = c .before .before .before in
+    let named = c .before .before in
     let m = named .before .before in
-    rw (length-fine (m .before), mission-fine m, name-fine named, c .ends .ensures, c .before .walk-to .ensures, c .before .before .start .ensures)
+    rw (length-fine (m .before), mission-fine m, name-fine named, c .ends .ensures, c .before .walk-list .ensures)
 
 length-ok-requires : tie.Need-length-ok-requires
 length-ok-requires c κs = search needs
@@ -52,16 +52,10 @@ returns-3 c =
     let m = c .before .before in
     walk-asks _ _ _ _ (rw (length-fine (m .before), mission-fine m, sym (c .before .is-name .ensures) ∙ not-true _ (c .if3 .taken)))
 
-start-requires : tie.Need-start-requires
-start-requires c κs =
+walk-list-requires : tie.Need-walk-list-requires
+walk-list-requires c κs =
     let m = c .before .before in
-    start-inside _ (length-fine (m .before)) _ (m .if2 .left)
-
-cast-first : tie.Need-cast-first
-cast-first c = search needs
-
-walk-to-requires : tie.Need-walk-to-requires
-walk-to-requires c κs = name-parts _ (name-fine (c .before)) .2
+    (start-inside _ (length-fine (m .before)) _ (m .if2 .left), name-parts _ (name-fine c) .2)
 
 ends-requires : tie.Need-ends-requires
 ends-requires c κs = search needs
@@ -81,9 +75,7 @@ ask-spec =
     returns-2
     is-name-requires
     returns-3
-    start-requires
-    cast-first
-    walk-to-requires
+    walk-list-requires
     ends-requires
     returns-4
     returns-5)

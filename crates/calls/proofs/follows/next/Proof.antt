@@ -42,16 +42,10 @@ returns-3 c =
     let m = c .before .before in
     walk-follows _ _ _ _ (rw (length-fine (m .before), mission-fine m, sym (c .before .is-prefix .ensures) ∙ not-true _ (c .if3 .taken)))
 
-start-requires : tie.Need-start-requires
-start-requires c κs =
+walk-list-requires : tie.Need-walk-list-requires
+walk-list-requires c κs =
     let m = c .before .before in
-    start-inside _ (length-fine (m .before)) _ (m .if2 .left)
-
-cast-first : tie.Need-cast-first
-cast-first c = search needs
-
-walk-to-requires : tie.Need-walk-to-requires
-walk-to-requires c κs = prefix-parts _ (prefix-fine (c .before)) .1
+    (start-inside _ (length-fine (m .before)) _ (m .if2 .left), prefix-parts _ (prefix-fine c) .1)
 
 letter-set-requires : tie.Need-letter-set-requires
 letter-set-requires c κs = search needs
@@ -62,7 +56,7 @@ letter-count-requires c κs = search needs
 returns-4 : tie.Need-returns-4
 returns-4 c =
     let walked = c .before .before in
-    let fine = walked .before .before in
+    let fine = walked .before in
     let m = fine .before .before in
     walk-follows _ _ _ _
     (rw (
@@ -72,8 +66,7 @@ returns-4 c =
       c .letter-count .ensures,
       c .before .letter-set .ensures,
       ones-sum,
-      walked .walk-to .ensures,
-      walked .before .start .ensures,
+      walked .walk-list .ensures,
     ))
 
 pub next-spec : {M : Type 1} → statement M
@@ -85,9 +78,7 @@ next-spec =
     returns-2
     is-prefix-requires
     returns-3
-    start-requires
-    cast-first
-    walk-to-requires
+    walk-list-requires
     letter-set-requires
     letter-count-requires
     returns-4)
