@@ -1,5 +1,4 @@
--- What the calls share on their way to an outcome: the test of the mission, its list, the test of the number of its names, and what nth leaves
--- in the buffer. Assumes nothing.
+-- What the calls share on their way to an outcome: the mission's list, the test of the number of its names, and what nth leaves in the buffer. Assumes nothing.
 use Prim.Native.Nat.{ℕ, _≤_, _<_}
 use native.Mathlib.Omega.{arith}
 use mathlib.Core.Path.{_≡_}
@@ -12,7 +11,7 @@ use Rattle.letters.specs.Words.{Word, bytesOf}
 use Rattle.letters.specs.Names.{longest}
 use Rattle.sets.specs.Cut.{most, cut}
 use Rattle.sets.proofs.Membership.{getD-in, each-in}
-use Rattle.model.specs.Lists.{lastMission, missions, listOf, nthOf}
+use Rattle.model.specs.Lists.{missions, listOf, nthOf}
 use Rattle.model.specs.Call.{Outcome, overlaid}
 use Rattle.model.specs.Call.Call.{nth}
 use Rattle.model.specs.Run.{refused, run}
@@ -25,13 +24,6 @@ use Rattle.answers.specs.declared.cases.Answer.the-variants as answer
 use Rattle.answers.specs.Replies.{refusalNumber}
 use Rattle.calls.specs.Books.{bookOf}
 use Rattle.calls.specs.Promises.{Writes}
-
--- "a mission number over 15"
-pub mission-over : (m : ℕ) → missions ≤ m → ltb lastMission m ≡ true
-mission-over m h = lt-ltb lastMission m h
-
-pub mission-under : (m : ℕ) → m < missions → ltb lastMission m ≡ false
-mission-under m h = le-ltb lastMission m (omega arith)
 
 -- the mission's list is the words of its start
 pub list-words : (t : Table) (m r : ℕ) → m < missions → r ≡ start t m → listOf (lists t) m ≡ words t r

@@ -66,6 +66,34 @@ pub none-count : (n : ℕ) (test : ℕ → Bool) → ((y : ℕ) → y < n → te
 unfolding ones onesIn
 none-count n test none = sym (ones-sum n test) ∙ rw (none-sum n test none)
 
+-- what passes one test passes the other, so no more pass it
+pub count-more : (n : ℕ) (f g : ℕ → Bool) → ((i : ℕ) → f i ≡ true → g i ≡ true) → countOf n f ≤ countOf n g
+unfolding countOf
+count-more zero f g h = omega arith
+count-more (suc n) f g h = go (f n) (g n) (h n) (count-more n f g h)
+  where
+    go : (a b : Bool) → (a ≡ true → b ≡ true) → countOf n f ≤ countOf n g → flag a + countOf n f ≤ flag b + countOf n g
+    go true b e rest = rw (e refl) (omega arith)
+    go false b e rest = omega arith
+
+-- one more at most, where only one number may pass one test and not the other
+pub count-but-one : (n : ℕ) (f g : ℕ → Bool) (x : ℕ) → ((y : ℕ) → y < n → (y ≡ x → ⊥) → f y ≡ g y) → countOf n f ≤ suc (countOf n g)
+unfolding countOf
+count-but-one zero f g x e = omega arith
+count-but-one (suc n) f g x e =
+    elim (ℕ-discrete n x) [
+      | yes d ↦ omega (arith, flag-le (f n), count-agree n f g (λ y h. e y (omega arith) (λ q. omega arith)))
+      | no d ↦ rw (e n (omega arith) d) (omega (arith, count-but-one n f g x (λ y h. e y (omega arith))))
+    ]
+
+-- all but 0
+pub count-positive : (n : ℕ) (test : ℕ → Bool) → 0 < n → test 0 ≡ false → ((y : ℕ) → 0 < y → y < n → test y ≡ true) → suc (countOf n test) ≡ n
+unfolding countOf
+count-positive zero test h none all = absurd (omega arith)
+count-positive (suc zero) test h none all = rw none
+count-positive (suc (suc n)) test h none all =
+    rw (all (suc n) (omega arith) (omega arith)) (omega (arith, count-positive (suc n) test (omega arith) none (λ y p q. all y p (omega arith))))
+
 pub sum-none : (n : ℕ) (test : ℕ → Bool) → sumOf n test ≡ 0 → (y : ℕ) → y < n → test y ≡ false
 sum-none n test e y h = go (test y) refl
   where

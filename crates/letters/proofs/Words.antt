@@ -1,6 +1,6 @@
 -- Words and their bytes: there and back, and what is known of a name and of a prefix. All follows from the laws of letters.
 -- Assumes nothing.
-use Prim.Native.Nat.{ℕ, _-_, _≤_, _<_}
+use Prim.Native.Nat.{ℕ, suc, _-_, _≤_, _<_}
 use mathlib.Core.Path.{_≡_, refl, ap₂}
 use mathlib.Core.Bool.{true, and-eq-true-iff}
 use mathlib.Core.List.{List, [], _∷_}
@@ -26,9 +26,9 @@ pub word-rest : (bytes : List ℕ) → 0 < length bytes → wordOf bytes ≡ let
 word-rest [] some = absurd (not-suc-le-zero some)
 word-rest (b ∷ bytes) some = rw (all-left b bytes)
 
-pub rest-shorter : (bytes : List ℕ) → 0 < length bytes → length (rest bytes) < length bytes
-rest-shorter [] some = absurd (not-suc-le-zero some)
-rest-shorter (b ∷ bytes) some = rw (all-left b bytes) (omega arith)
+pub rest-length : (bytes : List ℕ) → 0 < length bytes → suc (length (rest bytes)) ≡ length bytes
+rest-length [] some = absurd (not-suc-le-zero some)
+rest-length (b ∷ bytes) some = rw (all-left b bytes)
 
 pub spelled-rest : (bytes : List ℕ) → 0 < length bytes → Spelled (wordOf bytes)
     → (letter (getD bytes 0 0) < letters) × Spelled (wordOf (rest bytes))

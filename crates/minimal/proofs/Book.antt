@@ -10,13 +10,12 @@ use mathlib.Core.Logic.{inl, inr}
 use mathlib.Core.List.{[], _∷_}
 use lib.ListN.{length, getD, length-map, List·getD-map}
 use Rattle.letters.specs.Words.{Word, Spelled}
-use Rattle.letters.proofs.Order.{same-refl}
 use Rattle.sets.specs.Sets.{Words, member}
 use Rattle.sets.specs.Automata.{Once, size, isState, end, leads, accepts, Languages, acyclic, reachable, equivalent}
 use Rattle.sets.proofs.Membership.{In, listed-in, in-listed, not-listed, each-in, getD-in, in-getD}
 use Rattle.sets.proofs.Sets.{member-each, plain-ext}
 use Rattle.sets.proofs.Residuals.{member-after}
-use Rattle.sets.proofs.States.{Filled}
+use Rattle.sets.proofs.States.{filled-member}
 use Rattle.sets.proofs.Automata.{none-accepted, accepts-empty, accepts-step, leads-state, reachable-self, reachable-arc}
 use Rattle.rows.specs.Table.{Table, rowCount, starts, height, target, inUse, usedRows}
 use Rattle.rows.specs.Tidy.{Used, Named, Arc, Tidy}
@@ -44,12 +43,6 @@ module _ (t : Table) where
 
   pub automaton-once : Once (automaton t .states)
   automaton-once = apart-once (automaton t .states) (those-apart (λ r. inUse t r) (rowCount t))
-
--- a set that has a word has one
-filled-member : (k : Words) → Filled k → (w : Word) × (member w k ≡ true)
-unfolding member
-filled-member [] f = absurd f
-filled-member (w ∷ ws) f = (w, rw same-refl)
 
 module _ (t : Table) (tidy : Tidy t) where
   none-accepts : (w : Word) (n : ℕ) → n ≡ 0 → accepts (automaton t) w n ≡ member w (words t n)

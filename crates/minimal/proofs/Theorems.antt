@@ -1,7 +1,7 @@
 -- What is promised of the rows of a book: they are exactly the states that its lists need, no automaton has fewer, which rows hold them is all
 -- that is free, and the walk answers as the plain sets do. The proofs are put together here from those of the other files. Assumes nothing.
 use Prim.Native.Nat.{ℕ, _≤_, _<_}
-use mathlib.Core.Path.{_≡_}
+use mathlib.Core.Path.{_≡_, refl}
 use mathlib.Core.Bool.{true, or-false}
 use mathlib.Core.List.{List, [], _∷_}
 use lib.ListN.{length}
@@ -82,6 +82,26 @@ sound-theorem-5 t e =
 -- A sound book whose state rows are put into another order is a sound book with the same lists.
 pub renumbered-same : (t u : Table) → Renumbered t u → sound t ≡ true → (sound u ≡ true) × (lists u ≡ lists t)
 renumbered-same t u by e = let (facts, same) = renumbered-sound t u by (sound-facts t e) in (facts-sound u facts, same)
+
+-- A table is itself with its rows in the same order.
+pub renumbered-self : (t : Table) → Renumbered t t
+renumbered-self t =
+    record {
+      to = λ r. r;
+      from = λ r. r;
+      long = refl;
+      to-row = λ r e. e;
+      from-row = λ r e. e;
+      from-to = λ r e. refl;
+      to-from = λ r e. refl;
+      none = refl;
+      starts = λ m h. refl;
+      rest = λ i m h. refl;
+      marks = λ r e. refl;
+      heights = λ r e. refl;
+      targets = λ r x e h. refl;
+      lasts = λ r e. refl;
+    }
 
 -- Sound books of one length with the same lists differ in nothing but the order of their state rows.
 pub same-lists-renumbered : (t u : Table) → sound t ≡ true → sound u ≡ true → length u ≡ length t → lists u ≡ lists t → Renumbered t u

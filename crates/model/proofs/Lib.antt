@@ -1,3 +1,5 @@
 -- The laws of replacing one of the sixteen lists, and the lowest refusal. Assumes nothing.
 pub mod Lists
 pub mod Refusals
+pub mod Names
+pub mod Changes

@@ -1,11 +1,12 @@
--- Replacing one of the sixteen lists: that one is the new one, every other stays, and two different ones may be replaced in either order.
+-- Replacing one of the sixteen lists: that one is the new one, every other stays, by itself nothing changes, and two different ones may be
+-- replaced in either order.
 -- The lists stand in a list by mission, so each is the library's law of `set`. Assumes nothing.
 use Prim.Native.Nat.{ℕ, _<_}
 use mathlib.Core.Path.{_≡_}
 use mathlib.Core.Logic.{_≢_}
 use mathlib.Core.List.{List}
 use lib.ListN.{length}
-use lib.Seq.{getD-set-same, getD-set-other, set-comm}
+use lib.Seq.{getD-set-same, getD-set-other, set-getD, set-comm}
 use Rattle.sets.specs.Sets.{Words}
 use Rattle.model.specs.Lists.{listOf, replace}
 
@@ -14,6 +15,9 @@ replace-same ls m l h = getD-set-same ls m l _ h
 
 pub replace-other : (ls : List Words) (m n : ℕ) (l : Words) → n ≢ m → listOf (replace ls m l) n ≡ listOf ls n
 replace-other ls m n l h = getD-set-other ls m n l _ h
+
+pub replace-itself : (ls : List Words) (m : ℕ) → replace ls m (listOf ls m) ≡ ls
+replace-itself ls m = set-getD ls m _
 
 pub replace-commute : (ls : List Words) (m n : ℕ) (k l : Words) → m ≢ n → replace (replace ls m k) n l ≡ replace (replace ls n l) m k
 replace-commute ls m n k l h = set-comm ls m n k l h

@@ -6,9 +6,10 @@ use mathlib.Core.Bool.{Bool, true, false, cond, _&&_, false≢true, and-eq-true-
 use mathlib.Core.Logic.{_⊎_, inl, inr}
 use mathlib.Core.List.{List, [], _∷_}
 use native.Mathlib.Omega.{arith}
-use borrow.Author.Tests.{leb-true}
-use lib.Dec.{leb}
+use borrow.Author.Tests.{leb-true, lt-ltb, le-ltb}
+use lib.Dec.{leb, ltb}
 use Rattle.sets.proofs.Membership.{In, here, there, nil-in, cons-in}
+use Rattle.model.specs.Lists.{lastMission, missions}
 use Rattle.model.specs.Call.{Call, Book}
 use Rattle.model.specs.Call.Call.{empty, check, ask, next, add, remove, clear, load, combine, count, rank, nth, used}
 use Rattle.model.specs.Refusals.{Refusal, given}
@@ -69,3 +70,10 @@ lowest-given b c =
       applies = given-applies (rule b c .refusals);
       lowest = given-lowest 1 (rule b c .refusals) (rule-orderly b c);
     }
+
+-- "a mission number over 15"
+pub mission-over : (m : ℕ) → missions ≤ m → ltb lastMission m ≡ true
+mission-over m h = lt-ltb lastMission m h
+
+pub mission-under : (m : ℕ) → m < missions → ltb lastMission m ≡ false
+mission-under m h = le-ltb lastMission m (omega arith)

@@ -4,3 +4,4 @@ pub mod Call
 pub mod Refusals
 pub mod Rules
 pub mod Run
+pub mod Changes

@@ -1,5 +1,6 @@
--- The forty numbers of a row by their names: what holds of the mark, the height, the targets and the last number holds of all of them, and in
--- a free row of a tidy table each of these is 0. With these laws nobody above has to know where a number stands. Assumes nothing.
+-- The forty numbers of a row by their names: what holds of the mark, the height, the targets and the last number holds of all of them, where
+-- two tables have the same forty these are the same, and in a free row of a tidy table each of these is 0. With these laws nobody above has to
+-- know where a number stands. Assumes nothing.
 use Prim.Native.Nat.{ℕ, _+_, _-_, _*_, _<_}
 use native.Mathlib.Omega.{arith}
 use native.Mathlib.Nat.{add-zero}
@@ -25,6 +26,20 @@ forty t r P m h ts l i below =
         ]
       ]
     ]
+
+-- row r is the same in both tables
+module _ (t u : Table) (r : ℕ) (same : (i : ℕ) → i < width → getD u (r * width + i) 0 ≡ getD t (r * width + i) 0) where
+  pub same-mark : mark u r ≡ mark t r
+  same-mark = rw add-zero at (same 0 (omega arith))
+
+  pub same-height : height u r ≡ height t r
+  same-height = same 1 (omega arith)
+
+  pub same-target : (x : ℕ) → x < letters → target u r x ≡ target t r x
+  same-target x h = let e : r * width + 2 + x ≡ r * width + (2 + x) = omega arith in rw e (same (2 + x) (omega arith))
+
+  pub same-last : last u r ≡ last t r
+  same-last = same 39 (omega arith)
 
 -- "a free row is forty zeros"
 module _ (t : Table) (tidy : Tidy t) (r : ℕ) (row : isRow t r ≡ true) (e : mark t r ≡ 0) where

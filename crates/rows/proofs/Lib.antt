@@ -7,3 +7,4 @@ pub mod Words
 pub mod Reach
 pub mod Books
 pub mod Zeros
+pub mod Growth

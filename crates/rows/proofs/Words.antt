@@ -3,7 +3,7 @@
 -- enough, and membership is the walk; what is left after a letter, what a row's words are made of, and where a walk leads then follow from
 -- membership alone. A row in use has a word, because heights fall until a mark is 2; and rows with the same words agree in mark and targets,
 -- from below upwards, so they are one row. Assumes nothing.
-use Prim.Native.Nat.{ℕ, zero, suc, _≤_, _<_}
+use Prim.Native.Nat.{ℕ, zero, suc, _-_, _≤_, _<_}
 use native.Mathlib.Omega.{arith}
 use native.Mathlib.Decide.{ℕ-discrete}
 use mathlib.Core.Path.{_≡_, refl, sym, _∙_}
@@ -24,10 +24,10 @@ use Rattle.sets.specs.Residuals.{after, residual}
 use Rattle.sets.proofs.Sets.{member-cond, member-each, members-each, members-above, rising-cond, plain-ext}
 use Rattle.sets.proofs.Residuals.{member-after, residual-none, plain-after}
 use Rattle.sets.proofs.Below.{some-at, member-over, rising-over}
-use Rattle.sets.proofs.States.{Filled, member-filled, after-filled}
+use Rattle.sets.proofs.States.{Filled, member-filled, filled-member, after-filled}
 use Rattle.rows.specs.Table.{Table, isRow, mark, height, target}
 use Rattle.rows.specs.Walk.{walkFrom, accepts}
-use Rattle.rows.specs.Words.{behind, rowWords, shortWords, words}
+use Rattle.rows.specs.Words.{behind, fan, rowWords, shortWords, words}
 use Rattle.rows.specs.Tidy.{Used, Named, Arc, Tidy}
 use Rattle.rows.proofs.Facts.{no-row, used-row, named-cases, target-named, target-lower, by-height}
 use Rattle.rows.proofs.Walk.{walk-none, walk-empty, walk-step, none-accepted, accepts-empty, accepts-step}
@@ -60,48 +60,46 @@ behind-before x y k l (a ∷ u) (b ∷ v) h m g =
     let e = eqb-true b y (and-eq-true-iff (eqb b y) (member v l) .0 (rw behind-word at g) .0) in
     lower-before a b u v (omega arith)
 
--- the words of a row, by what its targets give
-module _ (t : Table) (r : ℕ) (given : ℕ → Words) where
+-- a mark, and what is given for each letter
+module _ (mark : ℕ) (given : ℕ → Words) where
   -- those that begin with a letter
   abbrev longer : Words
-  longer = over letters (λ x. behind x (given (target t r x)))
+  longer = over letters (λ x. behind x (given x))
 
   longer-empty : member [] longer ≡ false
   unfolding someBelow
   longer-empty = member-over _ [] letters ∙ simp behind-empty
 
-  row-front : rowWords t r given ≡ cond (eqb (mark t r) 2) ([] ∷ longer) longer
-  row-front = elim (eqb (mark t r) 2) as (λ b. cond b ([] ∷ []) [] ++ longer ≡ cond b ([] ∷ longer) longer) [ true ↦ refl | false ↦ refl ]
+  fan-front : fan mark given ≡ cond (eqb mark 2) ([] ∷ longer) longer
+  fan-front = elim (eqb mark 2) as (λ b. cond b ([] ∷ []) [] ++ longer ≡ cond b ([] ∷ longer) longer) [ true ↦ refl | false ↦ refl ]
 
-  row-empty : member [] (rowWords t r given) ≡ eqb (mark t r) 2
+  pub fan-empty : member [] (fan mark given) ≡ eqb mark 2
   unfolding order
-  row-empty = rw (row-front, member-cond, longer-empty, or-false, and-true)
+  fan-empty = rw (fan-front, member-cond, longer-empty, or-false, and-true)
 
-  row-word : (x : ℕ) (w : Word) → member (x ∷ w) (rowWords t r given) ≡ (ltb x letters && member w (given (target t r x)))
+  pub fan-word : (x : ℕ) (w : Word) → member (x ∷ w) (fan mark given) ≡ (ltb x letters && member w (given x))
   unfolding order
-  row-word x w = rw (row-front, member-cond, and-false) (member-over _ (x ∷ w) letters ∙ simp behind-word (some-at _ letters x))
+  fan-word x w = rw (fan-front, member-cond, and-false) (member-over _ (x ∷ w) letters ∙ simp behind-word (some-at _ letters x))
 
-  row-rising : ((s : ℕ) → Rising (given s)) → Rising (rowWords t r given)
+  fan-rising : ((x : ℕ) → Rising (given x)) → Rising (fan mark given)
   unfolding order
-  row-rising rising = rw row-front (rising-cond (eqb (mark t r) 2) [] longer (λ e. members-above [] longer first) rest)
+  fan-rising rising = rw fan-front (rising-cond (eqb mark 2) [] longer (λ e. members-above [] longer first) rest)
     where
       first : (u : Word) → member u longer ≡ true → before [] u ≡ true
       first [] m = cc (longer-empty)
       first (x ∷ u) m = refl
 
       rest : Rising longer
-      rest =
-          rising-over _ (λ x. rising-behind x (given (target t r x)) (rising (target t r x)))
-          (λ x y. behind-before x y (given (target t r x)) (given (target t r y))) letters
+      rest = rising-over _ (λ x. rising-behind x (given x) (rising x)) (λ x y. behind-before x y (given x) (given y)) letters
 
-  row-plain : ((s : ℕ) → Plain (given s)) → Plain (rowWords t r given)
-  row-plain plain = record { rising = row-rising (λ s. plain s .rising); spelled = members-each Spelled (rowWords t r given) spelled }
+  pub fan-plain : ((x : ℕ) → Plain (given x)) → Plain (fan mark given)
+  fan-plain plain = record { rising = fan-rising (λ x. plain x .rising); spelled = members-each Spelled (fan mark given) spelled }
     where
-      spelled : (u : Word) → member u (rowWords t r given) ≡ true → Spelled u
+      spelled : (u : Word) → member u (fan mark given) ≡ true → Spelled u
       spelled [] m = tt
       spelled (x ∷ u) m =
-          let (h, rest) = and-eq-true-iff (ltb x letters) _ .0 (rw row-word at m) in
-          (ltb-true x letters h, member-each Spelled _ (plain (target t r x) .spelled) u rest)
+          let (h, rest) = and-eq-true-iff (ltb x letters) _ .0 (rw fan-word at m) in
+          (ltb-true x letters h, member-each Spelled _ (plain x .spelled) u rest)
 
 module _ (t : Table) where
   short-plain : (most n : ℕ) → Plain (shortWords most t n)
@@ -110,7 +108,7 @@ module _ (t : Table) where
   short-plain (suc most) n =
       let given : ℕ → Words = λ s. shortWords most t s in
       elim (isRow t n) as (λ b. Plain (cond b (rowWords t n given) [])) [
-        | true ↦ row-plain t n given (λ s. short-plain most s)
+        | true ↦ fan-plain (mark t n) (λ x. given (target t n x)) (λ x. short-plain most (target t n x))
         | false ↦ record { rising = tt; spelled = tt }
       ]
 
@@ -122,7 +120,7 @@ module _ (t : Table) where
     where
       go : (member w (shortWords most t (target t n x)) ≡ true → length w < most) → (b : Bool)
           → member (x ∷ w) (cond b (rowWords t n (λ s. shortWords most t s)) []) ≡ true → length (x ∷ w) < suc most
-      go rest true m = omega (arith, rest (and-eq-true-iff (ltb x letters) _ .0 (rw row-word at m) .1))
+      go rest true m = omega (arith, rest (and-eq-true-iff (ltb x letters) _ .0 (rw fan-word at m) .1))
       go rest false m = absurd (false≢true m)
 
   pub words-plain : (n : ℕ) → Plain (words t n)
@@ -155,9 +153,9 @@ module _ (t : Table) where
         → member w (shortWords most t r) ≡ accepts t w r
     unfolding shortWords
     member-short zero w s r u h = absurd (omega arith)
-    member-short (suc most) [] s r u h = rw (used-row u, row-empty, accepts-empty, used-row u)
+    member-short (suc most) [] s r u h = rw (used-row u, fan-empty, accepts-empty, used-row u)
     member-short (suc most) (x ∷ w) s r u h =
-        rw (used-row u, row-word, lt-ltb x letters (s .0), accepts-step t r (used-row u) x w)
+        rw (used-row u, fan-word, lt-ltb x letters (s .0), accepts-step t r (used-row u) x w)
         (member-used most w (target t r x) (target-named t tidy r x u (s .0))
         (λ v. member-short most w (s .1) (target t r x) v (omega (arith, target-lower t tidy r x u (s .0) v))))
 
@@ -180,11 +178,11 @@ module _ (t : Table) where
             ∙ sym (member-after x w (words t r))
 
     pub words-row : (r : ℕ) → Used t r → words t r ≡ rowWords t r (λ s. words t s)
-    words-row r u = plain-ext (words t r) _ (words-plain r) (row-plain t r (λ s. words t s) words-plain) agrees
+    words-row r u = plain-ext (words t r) _ (words-plain r) (fan-plain (mark t r) (λ x. words t (target t r x)) (λ x. words-plain (target t r x))) agrees
       where
         agrees : (w : Word) → Spelled w → member w (words t r) ≡ member w (rowWords t r (λ s. words t s))
-        agrees [] s = rw (row-empty, empty-word r u)
-        agrees (x ∷ w) s = rw (row-word, lt-ltb x letters (s .0), words-target r x u (s .0), member-after)
+        agrees [] s = rw (fan-empty, empty-word r u)
+        agrees (x ∷ w) s = rw (fan-word, lt-ltb x letters (s .0), words-target r x u (s .0), member-after)
 
     pub has-word : (r : ℕ) → Used t r → Filled (words t r)
     has-word = by-height t tidy (λ r. Filled (words t r)) step
@@ -200,6 +198,26 @@ module _ (t : Table) where
 
     pub filled-used : (n : ℕ) → Named t n → Filled (words t n) → Used t n
     filled-used n named f = elim (named-cases named) [ inl u ↦ u | inr e ↦ absurd (rw (words-none n (no-row t n e)) at f) ]
+
+    -- "the height: the length of the longest word accepted from here": it is no more than that
+    pub height-short : (r : ℕ) → Used t r → (top : ℕ) → Each (λ w. length w ≤ top) (words t r) → height t r ≤ top
+    height-short = by-height t tidy (λ r. (top : ℕ) → Each (λ w. length w ≤ top) (words t r) → height t r ≤ top) step
+      where
+        step : (r : ℕ) → Used t r
+            → ((x : ℕ) → Arc t r x → (top : ℕ) → Each (λ w. length w ≤ top) (words t (target t r x)) → height t (target t r x) ≤ top)
+            → (top : ℕ) → Each (λ w. length w ≤ top) (words t r) → height t r ≤ top
+        step r u below top short = tidy .tight r top u lower
+          where
+            shorter : (x : ℕ) → Arc t r x → (w : Word) → member w (words t (target t r x)) ≡ true → length w < top
+            shorter x a w m = member-each _ (words t r) short (x ∷ w) (rw (words-target r x u (a .letter), member-after) at m)
+
+            lower : (x : ℕ) → Arc t r x → height t (target t r x) < top
+            lower x a =
+                let (w, m) = filled-member _ (has-word (target t r x) (tidy .targets r x a)) in
+                let some = shorter x a w m in
+                let short : (v : Word) → member v (words t (target t r x)) ≡ true → length v ≤ top - 1 = λ v i. omega (arith, shorter x a v i) in
+                let rest = below x a (top - 1) (members-each _ (words t (target t r x)) short) in
+                omega arith
 
     -- its words tell the row from every other in use
     abbrev Told : ℕ → Type 0

@@ -27,6 +27,10 @@ reachedFrom t ns s = some (λ n. reaches t n s) ns
 abbrev pub reached : Table → ℕ → Bool
 reached t s = reachedFrom t (starts t) s
 
+-- the table with every state row that fails the test set to forty zeros
+unfoldable pub onlyRows : Table → (ℕ → Bool) → Table
+onlyRows t test = each (length t) (λ j. cond (ltb j width || test (j / width)) (getD t j 0) 0)
+
 -- the table with every row that is not reached from a start set to forty zeros
-unfoldable pub swept : Table → Table
-swept t = each (length t) (λ j. cond (ltb j width || reached t (j / width)) (getD t j 0) 0)
+abbrev pub swept : Table → Table
+swept t = onlyRows t (λ r. reached t r)

@@ -13,9 +13,13 @@ use Rattle.rows.specs.Table.{Table, isRow, start, starts, mark, target}
 abbrev pub behind : ℕ → Words → Words
 behind x l = map (λ w. x ∷ w) l
 
--- from a row: the empty word where a name may end here, and letter by letter what the targets give
+-- the empty word where the mark says that a name may end, and letter by letter what is given for it
+abbrev pub fan : ℕ → (ℕ → Words) → Words
+fan mark given = cond (eqb mark 2) ([] ∷ []) [] ++ over letters (λ x. behind x (given x))
+
+-- from a row: by its mark, and by what its targets give
 abbrev pub rowWords : Table → ℕ → (ℕ → Words) → Words
-rowWords t r given = cond (eqb (mark t r) 2) ([] ∷ []) [] ++ over letters (λ x. behind x (given (target t r x)))
+rowWords t r given = fan (mark t r) (λ x. given (target t r x))
 
 -- of fewer than so many letters
 unfoldable pub shortWords : ℕ → Table → ℕ → Words

@@ -1,4 +1,3 @@
 -- The proofs that the tests of the code are the rules of 01. Assumes nothing.
-pub mod Loops
 pub mod Heights
 pub mod Writes

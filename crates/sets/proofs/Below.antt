@@ -115,6 +115,26 @@ module _ (given : ℕ → ℕ) where
   greatest-least zero top f = omega arith
   greatest-least (suc n) top f = omega (arith, greatest-least n top (λ i h. f i (omega arith)), f n (omega arith))
 
+  pub greatest-some : (n : ℕ) → 0 < greatest n given → (i : ℕ) × (i < n) × (0 < given i)
+  unfolding greatest
+  greatest-some zero h = absurd (omega arith)
+  greatest-some (suc n) h =
+      elim (ℕ-discrete (given n) 0) [
+        | yes e ↦ let (i, below, some) = greatest-some n (omega arith) in (i, omega arith, some)
+        | no e ↦ (n, omega arith, omega arith)
+      ]
+
+-- what agrees below n
+pub below-agree : (n : ℕ) (f g : ℕ → Bool) → ((i : ℕ) → i < n → f i ≡ g i) → someBelow n f ≡ someBelow n g
+unfolding someBelow
+below-agree zero f g e = refl
+below-agree (suc n) f g e = rw (below-agree n f g (λ i h. e i (omega arith)), e n (omega arith))
+
+pub over-agree : {A : Type 0} (n : ℕ) (f g : ℕ → List A) → ((i : ℕ) → i < n → f i ≡ g i) → over n f ≡ over n g
+unfolding over
+over-agree zero f g e = refl
+over-agree (suc n) f g e = rw (over-agree n f g (λ i h. e i (omega arith)), e n (omega arith))
+
 -- sums, and the list of what all of them give
 pub total-agree : (n : ℕ) (f g : ℕ → ℕ) → ((i : ℕ) → i < n → f i ≡ g i) → total n f ≡ total n g
 unfolding total

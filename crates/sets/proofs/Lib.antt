@@ -4,6 +4,7 @@ pub mod Sets
 pub mod Residuals
 pub mod Cut
 pub mod Below
+pub mod Loops
 pub mod Pigeons
 pub mod Distinct
 pub mod States

@@ -70,9 +70,21 @@ pub each-in : {A : Type 0} (P : A → Type 0) {l : List A} → Each P l → {a :
 each-in P h (here e) = rw e (h .0)
 each-in P h (there i) = each-in P (h .1) i
 
+pub in-each : {A : Type 0} (P : A → Type 0) (l : List A) → ((a : A) → In a l → P a) → Each P l
+in-each P [] f = tt
+in-each P (a ∷ l) f = (f a (here refl), in-each P l (λ b i. f b (there i)))
+
 pub each-map : {A B : Type 0} (P : B → Type 0) (f : A → B) (l : List A) → Each (λ a. P (f a)) l → Each P (map f l)
 each-map P f [] h = tt
 each-map P f (a ∷ l) h = (h .0, each-map P f l (h .1))
+
+pub some-agree : {A : Type 0} (P : A → Type 0) (f g : A → Bool) → ((a : A) → P a → f a ≡ g a) → (l : List A) → Each P l → some f l ≡ some g l
+some-agree P f g e [] h = refl
+some-agree P f g e (a ∷ l) h = rw (e a (h .0), some-agree P f g e l (h .1))
+
+pub map-agree : {A B : Type 0} (P : A → Type 0) (f g : A → B) → ((a : A) → P a → f a ≡ g a) → (l : List A) → Each P l → map f l ≡ map g l
+map-agree P f g e [] h = refl
+map-agree P f g e (a ∷ l) h = rw (e a (h .0), map-agree P f g e l (h .1))
 
 pub each-append : {A : Type 0} (P : A → Type 0) (k l : List A) → Each P k → Each P l → Each P (k ++ l)
 each-append P [] l h g = g

@@ -11,6 +11,7 @@ use lib.Dec.{eqb}
 use lib.ListN.{length, getD}
 use Rattle.letters.specs.Letters.{letters}
 use Rattle.letters.specs.Words.{Word}
+use Rattle.letters.proofs.Order.{same-refl}
 use Rattle.sets.specs.Sets.{Words, member}
 use Rattle.sets.specs.Residuals.{after, residuals, height, allResiduals, states}
 use Rattle.sets.proofs.Membership.{In, here, there, nil-in, cons-in, append-in, in-left, in-right, Apart}
@@ -26,6 +27,11 @@ pub member-filled : (w : Word) (l : Words) → member w l ≡ true → Filled l
 unfolding member
 member-filled w [] m = false≢true m
 member-filled w (v ∷ vs) m = tt
+
+pub filled-member : (l : Words) → Filled l → (w : Word) × (member w l ≡ true)
+unfolding member
+filled-member [] f = absurd f
+filled-member (w ∷ ws) f = (w, rw same-refl)
 
 pub after-filled : (x : ℕ) (l : Words) → Filled (after x l) → Filled l
 unfolding after

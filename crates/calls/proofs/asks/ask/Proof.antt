@@ -8,11 +8,11 @@ use Rattle.letters.specs.Names.{isName}
 use Rattle.letters.specs.LetterSet.{flag}
 use Rattle.letters.proofs.Words.{name-parts}
 use Rattle.model.specs.Lists.{lastMission}
+use Rattle.model.proofs.Refusals.{mission-over, mission-under}
 use Rattle.rows.specs.Table.{lengthOk}
 use Rattle.rows.proofs.Rules.{start-inside}
 use Rattle.answers.specs.Replies.{done, replyOf}
 use Rattle.calls.specs.Books.{askWalk}
-use Rattle.calls.proofs.Outcomes.{mission-over, mission-under}
 use Rattle.calls.proofs.Walks.{walk-asks}
 use Rattle.calls.proofs.asks.ask.Statement.{statement}
 use Rattle.calls.proofs.asks.ask.Tie as tie

@@ -6,8 +6,8 @@ use borrow.Author.Tests.{not-true, not-false}
 use lib.Dec.{ltb}
 use Rattle.model.specs.Lists.{lastMission}
 use Rattle.model.specs.Run.{run}
+use Rattle.model.proofs.Refusals.{mission-over, mission-under}
 use Rattle.rows.specs.Table.{lengthOk}
-use Rattle.calls.proofs.Outcomes.{mission-over, mission-under}
 use Rattle.calls.proofs.counts.count.Statement.{statement}
 use Rattle.calls.proofs.counts.count.Tie as tie
 

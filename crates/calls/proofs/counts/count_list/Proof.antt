@@ -2,8 +2,9 @@
 use native.Mathlib.Omega.{arith}
 use borrow.Author.Needs.{needs}
 use Rattle.model.specs.Run.{run}
+use Rattle.model.proofs.Refusals.{mission-under}
 use Rattle.rows.proofs.Rules.{sound-facts, sound-length}
-use Rattle.calls.proofs.Outcomes.{mission-under, names-over, names-under, names-exact}
+use Rattle.calls.proofs.Outcomes.{names-over, names-under, names-exact}
 use Rattle.calls.proofs.counts.count_list.Statement.{statement}
 use Rattle.calls.proofs.counts.count_list.Tie as tie
 

@@ -9,9 +9,9 @@ use Rattle.letters.specs.Names.{isPrefix}
 use Rattle.letters.proofs.Words.{prefix-parts}
 use Rattle.letters.proofs.LetterSet.{ones-sum}
 use Rattle.model.specs.Lists.{lastMission}
+use Rattle.model.proofs.Refusals.{mission-over, mission-under}
 use Rattle.rows.specs.Table.{lengthOk}
 use Rattle.rows.proofs.Rules.{start-inside}
-use Rattle.calls.proofs.Outcomes.{mission-over, mission-under}
 use Rattle.calls.proofs.Walks.{walk-follows}
 use Rattle.calls.proofs.follows.next.Statement.{statement}
 use Rattle.calls.proofs.follows.next.Tie as tie

@@ -7,8 +7,8 @@ use lib.Dec.{ltb}
 use Rattle.letters.specs.Names.{isName}
 use Rattle.model.specs.Lists.{lastMission}
 use Rattle.model.specs.Run.{run}
+use Rattle.model.proofs.Refusals.{mission-over, mission-under}
 use Rattle.rows.specs.Table.{lengthOk}
-use Rattle.calls.proofs.Outcomes.{mission-over, mission-under}
 use Rattle.calls.proofs.ranks.rank.Statement.{statement}
 use Rattle.calls.proofs.ranks.rank.Tie as tie
 

@@ -4,9 +4,10 @@ use native.Mathlib.Omega.{arith}
 use borrow.Author.Needs.{needs}
 use Rattle.letters.proofs.Words.{name-parts}
 use Rattle.model.specs.Run.{run}
+use Rattle.model.proofs.Refusals.{mission-under}
 use Rattle.rows.proofs.Rules.{sound-facts, sound-length}
 use Rattle.rows.proofs.Books.{start-named}
-use Rattle.calls.proofs.Outcomes.{mission-under, list-words, names-over, names-under}
+use Rattle.calls.proofs.Outcomes.{list-words, names-over, names-under}
 use Rattle.calls.proofs.ranks.rank_in_list.Statement.{statement}
 use Rattle.calls.proofs.ranks.rank_in_list.Tie as tie
 

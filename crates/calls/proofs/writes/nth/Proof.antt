@@ -9,8 +9,9 @@ use native.Mathlib.Omega.{arith}
 use Rattle.letters.specs.Names.{longest}
 use Rattle.model.specs.Lists.{lastMission}
 use Rattle.model.specs.Run.{run}
+use Rattle.model.proofs.Refusals.{mission-over, mission-under}
 use Rattle.rows.specs.Table.{lengthOk}
-use Rattle.calls.proofs.Outcomes.{mission-over, mission-under, refused-writes}
+use Rattle.calls.proofs.Outcomes.{refused-writes}
 use Rattle.calls.proofs.writes.nth.Statement.{statement}
 use Rattle.calls.proofs.writes.nth.Tie as tie
 

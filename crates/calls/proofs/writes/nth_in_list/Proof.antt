@@ -9,10 +9,11 @@ use lib.ListN.{length}
 use Rattle.letters.specs.Words.{Word}
 use Rattle.model.specs.Lists.{nthOf}
 use Rattle.model.specs.Run.{run}
+use Rattle.model.proofs.Refusals.{mission-under}
 use Rattle.rows.specs.Words.{words}
 use Rattle.rows.proofs.Rules.{sound-facts, sound-length}
 use Rattle.listing.proofs.Steps.{start-listable}
-use Rattle.calls.proofs.Outcomes.{mission-under, list-words, names-over, names-under, names-exact, name-short, refused-writes, done-writes}
+use Rattle.calls.proofs.Outcomes.{list-words, names-over, names-under, names-exact, name-short, refused-writes, done-writes}
 use Rattle.calls.proofs.writes.nth_in_list.Statement.{statement}
 use Rattle.calls.proofs.writes.nth_in_list.Tie as tie
 

@@ -11,7 +11,7 @@ use lib.ListN.{length}
 use lib.Seq.{take-all}
 use Rattle.letters.specs.Letters.{letters}
 use Rattle.letters.specs.Words.{Word, wordOf, rest, Spelled}
-use Rattle.letters.proofs.Words.{word-rest, rest-shorter, spelled-rest}
+use Rattle.letters.proofs.Words.{word-rest, rest-length, spelled-rest}
 use Rattle.sets.specs.Cut.{most}
 use Rattle.sets.specs.Sets.{keep}
 use Rattle.model.specs.Lists.{rankOf}
@@ -111,7 +111,7 @@ module _ (bound : ℕ) where
       let (used, letter, left) = begins (c .before .before .before) in
       let t = start .args .t .now in
       let name = start .args .name .now in
-      let less : length (rest name) < bound = omega (arith, rest-shorter name (omega arith), start .pre .0) in
+      let less : length (rest name) < bound = omega (arith, rest-length name (omega arith), start .pre .0) in
       let fewer = target-few t (counted .tidy) (start .args .n) used _ letter in
       rw (c .before .target .ensures)
       (less, (counted, target-named t (counted .tidy) (start .args .n) _ used letter, omega arith, left))

@@ -20,7 +20,7 @@ use Rattle.rows.specs.Rules.{above, lastOk, arcsOk}
 use Rattle.rules.specs.declared.arcs.Asked.the-variants.{Height, Broken}
 use Rattle.rules.specs.Asked.{asksIf, asks}
 use Rattle.rules.specs.Pointed.{Pointed}
-use Rattle.rules.proofs.Loops.{all-more}
+use Rattle.sets.proofs.Loops.{all-more}
 use Rattle.rules.proofs.Writes.{points-nowhere, points-at-both, not-passed}
 use Rattle.rules.proofs.arcs.arcs_ok.Statement.{statement}
 use Rattle.rules.proofs.arcs.arcs_ok.Tie as tie

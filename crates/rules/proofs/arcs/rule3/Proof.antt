@@ -14,7 +14,7 @@ use Rattle.sets.proofs.Below.{not-all-below}
 use Rattle.rows.specs.Table.{Table, rowCount}
 use Rattle.rows.specs.Rules.{ifUsed, arcsOk, rule3}
 use Rattle.rules.specs.Pointed.{Pointed, targetOfBelow}
-use Rattle.rules.proofs.Loops.{all-more, all-done}
+use Rattle.sets.proofs.Loops.{all-more, all-done}
 use Rattle.rules.proofs.Writes.{points-nowhere, points-at-both, not-passed}
 use Rattle.rules.proofs.arcs.rule3.Statement.{statement}
 use Rattle.rules.proofs.arcs.rule3.Tie as tie

@@ -11,7 +11,7 @@ use Rattle.sets.specs.Below.{allBelow}
 use Rattle.sets.proofs.Below.{not-all-below}
 use Rattle.model.specs.Lists.{missions}
 use Rattle.rows.specs.Table.{Table, width}
-use Rattle.rules.proofs.Loops.{all-more, all-done}
+use Rattle.sets.proofs.Loops.{all-more, all-done}
 use Rattle.rules.proofs.head.rest_ok.Statement.{statement}
 use Rattle.rules.proofs.head.rest_ok.Tie as tie
 

@@ -10,7 +10,7 @@ use Rattle.sets.proofs.Below.{not-all-below}
 use Rattle.model.specs.Lists.{missions}
 use Rattle.rows.specs.Table.{Table, start}
 use Rattle.rows.specs.Rules.{startOk}
-use Rattle.rules.proofs.Loops.{all-more, all-done}
+use Rattle.sets.proofs.Loops.{all-more, all-done}
 use Rattle.rules.proofs.head.starts_ok.Statement.{statement}
 use Rattle.rules.proofs.head.starts_ok.Tie as tie
 

@@ -10,7 +10,7 @@ use lib.ListN.{getD}
 use Rattle.sets.specs.Below.{allBelow}
 use Rattle.sets.proofs.Below.{not-all-below}
 use Rattle.rows.specs.Table.{Table, width}
-use Rattle.rules.proofs.Loops.{all-more, all-done}
+use Rattle.sets.proofs.Loops.{all-more, all-done}
 use Rattle.rules.proofs.marks.is_zeros.Statement.{statement}
 use Rattle.rules.proofs.marks.is_zeros.Tie as tie
 

@@ -10,7 +10,7 @@ use Rattle.sets.proofs.Below.{not-all-below}
 use Rattle.rows.specs.Table.{Table, rowCount, isRow}
 use Rattle.rows.specs.Rules.{markOk, rule2}
 use Rattle.rows.proofs.Facts.{inside-row}
-use Rattle.rules.proofs.Loops.{all-more, all-done}
+use Rattle.sets.proofs.Loops.{all-more, all-done}
 use Rattle.rules.proofs.marks.rule2.Statement.{statement}
 use Rattle.rules.proofs.marks.rule2.Tie as tie
 

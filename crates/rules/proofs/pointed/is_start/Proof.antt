@@ -11,7 +11,7 @@ use Rattle.sets.specs.Below.{someBelow}
 use Rattle.sets.proofs.Below.{below-some}
 use Rattle.model.specs.Lists.{missions}
 use Rattle.rows.specs.Table.{start}
-use Rattle.rules.proofs.Loops.{none-more, none-done}
+use Rattle.sets.proofs.Loops.{none-more, none-done}
 use Rattle.rules.proofs.pointed.is_start.Statement.{statement}
 use Rattle.rules.proofs.pointed.is_start.Tie as tie
 

@@ -10,7 +10,7 @@ use Rattle.sets.proofs.Below.{below-some}
 use Rattle.rows.specs.Table.{inUse}
 use Rattle.rows.specs.Rules.{agree}
 use Rattle.rows.proofs.Facts.{in-use-used, inside-row}
-use Rattle.rules.proofs.Loops.{none-more, none-done}
+use Rattle.sets.proofs.Loops.{none-more, none-done}
 use Rattle.rules.proofs.twins.has_twin.Statement.{statement}
 use Rattle.rules.proofs.twins.has_twin.Tie as tie
 

@@ -8,7 +8,7 @@ use borrow.Author.Tests.{not-true, not-false}
 use Rattle.sets.specs.Below.{allBelow}
 use Rattle.sets.proofs.Below.{not-all-below}
 use Rattle.rows.specs.Rules.{ifUsed, hasTwin, rule6}
-use Rattle.rules.proofs.Loops.{all-more, all-done}
+use Rattle.sets.proofs.Loops.{all-more, all-done}
 use Rattle.rules.proofs.twins.rule6.Statement.{statement}
 use Rattle.rules.proofs.twins.rule6.Tie as tie
 

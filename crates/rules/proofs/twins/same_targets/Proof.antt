@@ -11,7 +11,7 @@ use Rattle.letters.specs.Letters.{letters}
 use Rattle.sets.specs.Below.{allBelow}
 use Rattle.sets.proofs.Below.{not-all-below}
 use Rattle.rows.specs.Table.{target}
-use Rattle.rules.proofs.Loops.{all-more, all-done}
+use Rattle.sets.proofs.Loops.{all-more, all-done}
 use Rattle.rules.proofs.twins.same_targets.Statement.{statement}
 use Rattle.rules.proofs.twins.same_targets.Tie as tie
 

@@ -12,7 +12,7 @@ use native.Mathlib.Omega.{arith}
 use lib.ListN.{length}
 use lib.Seq.{take-all}
 use Rattle.letters.specs.Words.{rest}
-use Rattle.letters.proofs.Words.{word-rest, rest-shorter, spelled-rest}
+use Rattle.letters.proofs.Words.{word-rest, rest-length, spelled-rest}
 use Rattle.rows.specs.Table.{isRow}
 use Rattle.rows.proofs.Facts.{row-inside}
 use Rattle.rows.proofs.Walk.{walk-none, walk-empty, walk-step}
@@ -86,7 +86,7 @@ module _ (bound : ℕ) where
       let start = c .before .before .before .before .before .before .before .before .before in
       let name = start .args .name .now in
       let (first, left) = spelled-rest name (omega arith) (start .pre .1) in
-      let less : length (rest name) < bound = omega (arith, rest-shorter name (omega arith), start .pre .0) in
+      let less : length (rest name) < bound = omega (arith, rest-length name (omega arith), start .pre .0) in
       (less, left)
 
   returns-3 : lts.Need-returns-3 claims at walk-to.Post

@@ -1,0 +1,59 @@
+-- Growing step by step: what is made on the way to some words is needed for them, if it is left of them after some letters. Assumes nothing.
+use Prim.Native.Nat.{ℕ, _+_, _<_}
+use native.Mathlib.Omega.{arith}
+use mathlib.Core.List.{List, List·Memᴰ}
+use Rattle.letters.specs.Letters.{letters}
+use Rattle.sets.specs.Sets.{Words}
+use Rattle.sets.specs.Residuals.{after, states}
+use Rattle.sets.proofs.States.{Filled, after-filled, after-in-states}
+use Rattle.rows.specs.Table.{Table}
+use Rattle.rows.proofs.Growth.{grown-on}
+use Rattle.growing.specs.declared.makes.Made.{Made}
+use Rattle.growing.specs.declared.makes.Made.the-variants.{Row, Full}
+use Rattle.growing.specs.Growing.{Grows, Made-row, Made-full, Makes}
+
+-- where the words l are needed, so are the words k
+abbrev pub Within : Words → Words → Type 0
+Within k l = (ls : List Words) → (Filled l → List·Memᴰ l (states ls)) → Filled k → List·Memᴰ k (states ls)
+
+pub within-after : (x : ℕ) → x < letters → (l : Words) → Within (after x l) l
+within-after x h l ls needed some = after-in-states ls (needed (after-filled x l some)) x h some
+
+grows-on : {t u v : Table} {k l : Words} → Grows t u k → Grows u v l → Within k l → Grows t v l
+grows-on {t} {u} {v} first second within =
+    record {
+      tidy = second .tidy;
+      grown = grown-on t u v (first .grown) (second .grown);
+      useful = λ ls needed us. second .useful ls needed (first .useful ls (within ls needed) us);
+    }
+
+-- a row is made for k, and then one for l
+pub makes-on : {a : ℕ} {t u : Table} {k : Words} {r : ℕ} → Made-row a t u k r → (b : ℕ) (v : Table) (l : Words) → Within k l
+    → (made : Made) → Makes b u v l made → Makes (a + b) t v l made
+makes-on first b v l within (Row s) second =
+    record {
+      grows = grows-on (first .grows) (second .grows) within;
+      named = second .named;
+      has = second .has;
+      few = omega (arith, first .few, second .few);
+    }
+makes-on first b v l within Full second =
+    record {
+      grows = grows-on (first .grows) (second .grows) within;
+      full = second .full;
+      few = omega (arith, first .few, second .few);
+    }
+
+-- no row is free for k, and so none for l
+pub full-on : {a : ℕ} {t u : Table} {k : Words} → Made-full a t u k → (b : ℕ) (l : Words) → Within k l → Makes (a + b) t u l Full
+full-on first b l within =
+    record {
+      grows =
+          record {
+            tidy = first .grows .tidy;
+            grown = first .grows .grown;
+            useful = λ ls needed. first .grows .useful ls (within ls needed);
+          };
+      full = first .full;
+      few = omega (arith, first .few);
+    }

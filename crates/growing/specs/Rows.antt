@@ -1,0 +1,49 @@
+-- The row for a mark and 37 targets: the one in use that agrees, a free one, its height, its words, and how it is written. Assumes nothing.
+use Prim.Native.Nat.{ℕ, _/_, _<_}
+use mathlib.Core.Path.{_≡_}
+use mathlib.Core.Bool.{Bool, _&&_}
+use mathlib.Core.List.{List}
+use lib.Dec.{eqb}
+use lib.ListN.{length, getD}
+use Rattle.letters.specs.Letters.{letters}
+use Rattle.sets.specs.Below.{allBelow, firstBelow, greatest}
+use Rattle.sets.specs.Sets.{Words}
+use Rattle.rows.specs.Table.{Table, width, rowCount, isRow, mark, height, target, last, inUse}
+use Rattle.rows.specs.Words.{fan, words}
+use Rattle.rows.specs.Rules.{above}
+
+-- 6. "No two rows in use agree in mark and all 37 targets": the row in use has this mark and these targets
+abbrev pub has : Table → ℕ → ℕ → List ℕ → Bool
+has t r k targets = eqb (mark t r) k && allBelow letters (λ x. eqb (target t r x) (getD targets x 0))
+
+abbrev pub agrees : Table → ℕ → ℕ → List ℕ → Bool
+agrees t r k targets = inUse t r && has t r k targets
+
+-- the first row in use that agrees, or 0
+abbrev pub found : Table → ℕ → List ℕ → ℕ
+found t k targets = firstBelow (rowCount t) (λ r. agrees t r k targets)
+
+-- "0 free"
+abbrev pub isFree : Table → ℕ → Bool
+isFree t r = isRow t r && eqb (mark t r) 0
+
+-- the first free row, or 0
+abbrev pub vacant : Table → ℕ
+vacant t = firstBelow (rowCount t) (λ r. isFree t r)
+
+-- 3. "the height is 0 if there is no target, else one more than the greatest height among its targets"
+abbrev pub heightOver : Table → List ℕ → ℕ
+heightOver t targets = greatest letters (λ x. above t (getD targets x 0))
+
+-- the words of a row with this mark and these targets
+abbrev pub wordsOver : Table → ℕ → List ℕ → Words
+wordsOver t k targets = fan k (λ x. words t (getD targets x 0))
+
+-- u is t with these numbers in row r; number 39 stays
+pub record Written (t u : Table) (r k h : ℕ) (targets : List ℕ) : Type 0 where
+  pub long : length u ≡ length t
+  pub others : (j : ℕ) → (j / width ≡ r → ⊥) → getD u j 0 ≡ getD t j 0
+  pub marked : mark u r ≡ k
+  pub high : height u r ≡ h
+  pub targeted : (x : ℕ) → x < letters → target u r x ≡ getD targets x 0
+  pub rest : last u r ≡ last t r

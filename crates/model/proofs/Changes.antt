@@ -1,0 +1,57 @@
+-- A call leaves every list the same that it may not change: a refusal leaves all, and what is done replaces one. And a change is done, with a
+-- value above 0, only on a sound book. Assumes nothing.
+use Prim.Native.Nat.{ℕ, zero, suc, _<_}
+use native.Mathlib.Omega.{arith}
+use mathlib.Core.Path.{_≡_, refl, sym}
+use mathlib.Core.Bool.{Bool, true, false, false≢true}
+use lib.Dec.{eqb}
+use borrow.Author.Tests.{eqb-false}
+use Rattle.sets.specs.Sets.{Words}
+use Rattle.sets.proofs.Membership.{In}
+use Rattle.model.specs.Lists.{listOf, replace}
+use Rattle.model.specs.Call.{Call, Book}
+use Rattle.model.specs.Call.Call.{empty, check, ask, next, add, remove, clear, load, combine, count, rank, nth, used}
+use Rattle.model.specs.Refusals.{given, notSound}
+use Rattle.model.specs.Rules.{Rule}
+use Rattle.model.specs.Run.{rule, outcome, ruled, run}
+use Rattle.model.specs.Changes.{changes}
+use Rattle.model.proofs.Lists.{replace-other}
+use Rattle.model.proofs.Refusals.{lowest-given}
+
+module _ (b : Book) where
+  refused-or-done : (r : Rule) (n : ℕ) → listOf (r .done .lists) n ≡ listOf (b .lists) n → listOf (ruled b r .lists) n ≡ listOf (b .lists) n
+  refused-or-done r n e =
+      elim (given (r .refusals)) as (λ k. listOf (outcome b k (r .done) .lists) n ≡ listOf (b .lists) n) [ zero ↦ e | suc k ↦ refl ]
+
+  replaced : (r : Rule) (n m : ℕ) (l : Words) → r .done .lists ≡ replace (b .lists) m l → eqb n m ≡ false
+      → listOf (ruled b r .lists) n ≡ listOf (b .lists) n
+  replaced r n m l e other = refused-or-done r n (rw e (replace-other (b .lists) m n l (eqb-false n m other)))
+
+  pub run-others : (c : Call) (n : ℕ) → changes c n ≡ false → listOf (run b c .lists) n ≡ listOf (b .lists) n
+  unfolding run
+  run-others empty n other = absurd (false≢true (sym other))
+  run-others (add m name) n other = replaced (rule b (add m name)) n m _ refl other
+  run-others (remove m name) n other = replaced (rule b (remove m name)) n m _ refl other
+  run-others (clear m) n other = replaced (rule b (clear m)) n m _ refl other
+  run-others (load m bytes) n other = replaced (rule b (load m bytes)) n m _ refl other
+  run-others (combine op x y z) n other = replaced (rule b (combine op x y z)) n z _ refl other
+  run-others check n other = refused-or-done (rule b check) n refl
+  run-others (ask m name) n other = refused-or-done (rule b (ask m name)) n refl
+  run-others (next m prefix) n other = refused-or-done (rule b (next m prefix)) n refl
+  run-others (count m) n other = refused-or-done (rule b (count m)) n refl
+  run-others (rank m name) n other = refused-or-done (rule b (rank m name)) n refl
+  run-others (nth m k size) n other = refused-or-done (rule b (nth m k size)) n refl
+  run-others used n other = refused-or-done (rule b used) n refl
+
+  -- a call that 7 refuses, "book not sound", comes to a value above 0 only on a sound book
+  pub done-sound : (c : Call) → In (notSound b) (rule b c .refusals) → 0 < run b c .value → b .sound ≡ true
+  unfolding run
+  done-sound c i h = go (b .sound) refl
+    where
+      no-value : (n : ℕ) → 0 < n → given (rule b c .refusals) ≡ n → ⊥
+      no-value zero some e = omega arith
+      no-value (suc n) some e = omega (arith, rw e at h)
+
+      go : (s : Bool) → b .sound ≡ s → s ≡ true
+      go true e = refl
+      go false e = absurd (no-value (given (rule b c .refusals)) (lowest-given b c .lowest (notSound b) i (rw e) .0) refl)

@@ -1,0 +1,22 @@
+-- Whose list a call may change. Assumes nothing.
+use Prim.Native.Nat.{ℕ}
+use mathlib.Core.Bool.{Bool, true, false}
+use lib.Dec.{eqb}
+use Rattle.model.specs.Call.{Call}
+use Rattle.model.specs.Call.Call.{empty, check, ask, next, add, remove, clear, load, combine, count, rank, nth, used}
+
+-- may the call change the list of mission n? empty changes all lists; add, remove, clear and load that of their mission, and combine that of c
+abbrev pub changes : Call → ℕ → Bool
+changes empty n = true
+changes (add m name) n = eqb n m
+changes (remove m name) n = eqb n m
+changes (clear m) n = eqb n m
+changes (load m bytes) n = eqb n m
+changes (combine op x y z) n = eqb n z
+changes check n = false
+changes (ask m name) n = false
+changes (next m prefix) n = false
+changes (count m) n = false
+changes (rank m name) n = false
+changes (nth m n size) k = false
+changes used n = false
