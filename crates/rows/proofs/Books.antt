@@ -62,7 +62,7 @@ module _ (t : Table) where
     ask-plain m h w s = rw (list-names m h) (sym (member-words t tidy w s (start t m) (start-named m h)))
 
     -- "The empty word is no name"
-    no-empty : (m : ℕ) → m < missions → member [] (names t m) ≡ false
+    pub no-empty : (m : ℕ) → m < missions → member [] (names t m) ≡ false
     unfolding member
     no-empty m h =
         elim (named-cases (start-named m h)) [

@@ -1,0 +1,12 @@
+-- `settled` meets its promise: the branch settles the answer. Assumes nothing.
+use Rattle.changing.proofs.names.settled.Statement.{statement}
+use Rattle.changing.proofs.names.settled.Tie as tie
+
+returns : tie.Need-returns
+returns c = rw (c .if1 .taken)
+
+returns-2 : tie.Need-returns-2
+returns-2 c = rw (c .if1 .left)
+
+pub settled-spec : {M : Type 1} → statement M
+settled-spec = tie.close (tie.spec returns returns-2)

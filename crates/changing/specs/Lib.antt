@@ -1,0 +1,2 @@
+-- What the changing calls promise. Assumes nothing.
+pub mod Promises

@@ -1,0 +1,88 @@
+// "add and remove one name".
+use super::paths::path;
+use answers::Answer;
+use answers::Refusal;
+use growing::Made;
+use letters::is_name;
+use rows::MISSIONS;
+use rows::length_ok;
+use rows::start;
+use rules::sound;
+use settling::settle;
+use walking::ends;
+use walking::walk_list;
+ghost use mathlib.Core.Path.{_≡_};
+ghost use mathlib.Core.Bool.{not};
+ghost use Rattle.letters.specs.Words.{wordOf};
+ghost use Rattle.sets.specs.Sets.{member};
+ghost use Rattle.model.specs.Lists.{listOf};
+ghost use Rattle.model.specs.Call.Call.{add, remove};
+ghost use Rattle.rows.specs.Words.{lists};
+ghost use Rattle.changing.specs.Promises.{setCall, settledAnswer, Settable, Changes};
+
+// The answer to a change that was settled.
+fn settled(done: bool) -> Answer
+    ensures { λ a. ⌜ a ≡ settledAnswer done ⌝ }
+{
+    if done {
+        Answer::Done(1)
+    } else {
+        Answer::Refused(Refusal::NoRoom)
+    }
+}
+
+// On a sound book, a name that is not yet as wanted. The 25 rows above the room are enough for the
+// new ones.
+fn change_name(t: &mut [u16], m: usize, name: &[u8], on: bool) -> Answer
+    requires { ⌜ Settable (now t) m (now name) × (member (wordOf (now name)) (listOf (lists (now t)) m) ≡ not on) ⌝ }
+    ensures { λ a. ⌜ Changes (now (t .entry)) (now (t .exit)) (setCall on m (now (name .entry))) a ⌝ }
+{
+    let r = start(t, m);
+    match path(t, r, name, on) {
+        Made::Row(n) => settled(settle(t, m, n)),
+        Made::Full => Answer::Refused(Refusal::NoRoom),
+    }
+}
+
+// On a sound book.
+fn set_name(t: &mut [u16], m: usize, name: &[u8], on: bool) -> Answer
+    requires { ⌜ Settable (now t) m (now name) ⌝ }
+    ensures { λ a. ⌜ Changes (now (t .entry)) (now (t .exit)) (setCall on m (now (name .entry))) a ⌝ }
+{
+    let r = walk_list(t, m, name);
+    if ends(t, r) == on {
+        return Answer::Done(0);
+    }
+    change_name(t, m, name, on)
+}
+
+// The refusals of add and remove, in 01's order.
+fn set(t: &mut [u16], m: u32, name: &[u8], on: bool) -> Answer
+    ensures { λ a. ⌜ Changes (now (t .entry)) (now (t .exit)) (setCall on m (now (name .entry))) a ⌝ }
+{
+    if !length_ok(t) {
+        return Answer::Refused(Refusal::Length);
+    }
+    if MISSIONS <= m as usize {
+        return Answer::Refused(Refusal::Mission);
+    }
+    if !is_name(name) {
+        return Answer::Refused(Refusal::Name);
+    }
+    if !sound(t) {
+        return Answer::Refused(Refusal::NotSound);
+    }
+    set_name(t, m as usize, name, on)
+}
+
+pub fn add(t: &mut [u16], m: u32, name: &[u8]) -> Answer
+    ensures { λ a. ⌜ Changes (now (t .entry)) (now (t .exit)) (add m (now (name .entry))) a ⌝ }
+{
+    set(t, m, name, true)
+}
+
+pub fn remove(t: &mut [u16], m: u32, name: &[u8]) -> Answer
+    ensures { λ a. ⌜ Changes (now (t .entry)) (now (t .exit)) (remove m (now (name .entry))) a ⌝ }
+{
+    set(t, m, name, false)
+}

@@ -1,0 +1,42 @@
+// The row for a row's words with one word on or off.
+use growing::Made;
+use growing::make;
+use growing::mark_of;
+use growing::targets_of;
+use letters::letter_of;
+ghost use Prim.Native.Nat.{suc, _≤_};
+ghost use mathlib.Core.Path.{_≡_};
+ghost use mathlib.Core.Bool.{cond};
+ghost use lib.ListN.{length};
+ghost use Rattle.letters.specs.Words.{Spelled, wordOf};
+ghost use Rattle.letters.specs.Names.{longest};
+ghost use Rattle.model.specs.Rules.{withName};
+ghost use Rattle.rows.specs.Words.{words};
+ghost use Rattle.rows.specs.Tidy.{Named, Tidy};
+ghost use Rattle.growing.specs.Growing.{Makes};
+
+// The mark of a row where the word ends, or does not.
+fn end_mark(on: bool) -> u16
+    ensures { λ k. ⌜ k ≡ cond on 2 1 ⌝ }
+{
+    if on { 2 } else { 1 }
+}
+
+// The row's own targets stay, but for the one that the word goes on with. No row in use is touched: at
+// most one row more for each letter, and one for the end.
+pub fn path(t: &mut [u16], r: u16, name: &[u8], on: bool) -> Made
+    requires { ⌜ Tidy (now t) × Named (now t) r × Spelled (wordOf (now name)) × (length (now name) ≤ longest) ⌝ }
+    ensures { λ made. ⌜ Makes (suc (length (now (name .entry)))) (now (t .entry)) (now (t .exit)) (withName on (wordOf (now (name .entry))) (words (now (t .entry)) r)) made ⌝ }
+{
+    let mark = mark_of(t, r);
+    let mut targets = targets_of(t, r);
+    if name.len() == 0 {
+        return make(t, end_mark(on), targets);
+    }
+    let x = letter_of(name[0]);
+    let Made::Row(n) = path(t, targets[x], &name[1..], on) else {
+        return Made::Full;
+    };
+    targets[x] = n;
+    make(t, mark, targets)
+}
