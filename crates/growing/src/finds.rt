@@ -1,7 +1,6 @@
-// The row in use that agrees with a mark and targets, and the first free row.
+// The row in use that agrees with a mark and targets.
 use letters::LETTERS;
 use rows::in_use;
-use rows::is_row;
 use rows::mark;
 use rows::row_count;
 use rows::target;
@@ -10,7 +9,7 @@ ghost use mathlib.Core.Path.{_≡_};
 ghost use lib.ListN.{length};
 ghost use Rattle.letters.specs.Letters.{letters};
 ghost use Rattle.rows.specs.Table.{rowCount};
-ghost use Rattle.growing.specs.Rows.{has, agrees, found, isFree, vacant};
+ghost use Rattle.growing.specs.Rows.{has, agrees, found};
 
 // Has the row this mark and these targets?
 fn has(t: &[u16], r: usize, wanted: u16, targets: &[u16]) -> bool
@@ -50,31 +49,6 @@ pub fn find(t: &[u16], wanted: u16, targets: &[u16]) -> usize
     let mut r = 0;
     while r < k {
         if agrees(t, r, wanted, targets) {
-            return r;
-        }
-        r += 1;
-    }
-    0
-}
-
-// Is the row free?
-fn is_free(t: &[u16], r: usize) -> bool
-    ensures { λ b. ⌜ b ≡ isFree (now (t .entry)) r ⌝ }
-{
-    if !is_row(t, r) {
-        return false;
-    }
-    mark(t, r) == 0
-}
-
-// The first free row, or 0.
-pub fn vacant(t: &[u16]) -> usize
-    ensures { λ r. ⌜ r ≡ vacant (now (t .entry)) ⌝ }
-{
-    let k = row_count(t);
-    let mut r = 0;
-    while r < k {
-        if is_free(t, r) {
             return r;
         }
         r += 1;

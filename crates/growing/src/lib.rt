@@ -2,6 +2,7 @@
 // No row in use is ever written, so whatever else leads there keeps its words.
 mod copies;
 mod finds;
+mod frees;
 mod heights;
 mod makes;
 mod writes;

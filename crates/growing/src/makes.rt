@@ -1,6 +1,6 @@
 // The row for a mark and 37 targets.
 use super::finds::find;
-use super::finds::vacant;
+use super::frees::vacant;
 use super::heights::height_over;
 use super::writes::write_row;
 use letters::LETTERS;

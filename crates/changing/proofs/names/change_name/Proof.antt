@@ -1,4 +1,5 @@
 -- `change_name` meets its promise: the path's row has the list as wanted, and settling it is the model's change. It is never full. Assumes nothing.
+use native.Mathlib.Omega.{arith}
 use borrow.Author.Needs.{needs}
 use Rattle.letters.proofs.Words.{name-parts}
 use Rattle.rows.proofs.Rules.{sound-facts, sound-length, start-inside}
@@ -27,7 +28,7 @@ settle-requires c κs =
     let first = called .before .before .before .before .before .before in
     let (given, _) = first .pre in
     let made = rw (c .before .before .n .given .1, called .before .before .start .ensures) at (called .path .ensures) in
-    (made .grows .tidy, given .mission, path-startable _ (given .sound) _ (given .mission) (first .args .on) _ (given .named) _ _ _ made)
+    (made .grows .tidy, omega (arith, given .mission), path-startable _ (given .sound) _ (given .mission) (first .args .on) _ (given .named) _ _ _ made)
 
 settled-requires : tie.Need-settled-requires
 settled-requires c κs = search needs

@@ -1,5 +1,4 @@
 -- `above` meets its promise: the branch has settled whether there is a target. Assumes nothing.
-use native.Mathlib.Numerals.{add-one}
 use native.Mathlib.Omega.{arith}
 use borrow.Author.Needs.{needs}
 use borrow.Author.Tests.{ne-eqb}
@@ -19,7 +18,7 @@ add-result : tie.Need-add-result
 add-result c = search needs
 
 returns-2 : tie.Need-returns-2
-returns-2 c = rw (ne-eqb (c .before .before .before .args .n) 0 (λ e. omega arith), add-one (c .height .result), c .height .ensures)
+returns-2 c = rw (ne-eqb (c .before .before .before .args .n) 0 (λ e. omega arith)) (omega (arith, c .height .ensures))
 
 pub above-spec : {M : Type 1} → statement M
 above-spec = tie.close (tie.spec returns height-requires cast-result add-result returns-2)

@@ -86,7 +86,10 @@ slice-aggregate-write-row : tie.Need-slice-aggregate-write-row
 slice-aggregate-write-row c = search needs
 
 write-row-requires : tie.Need-write-row-requires
-write-row-requires c κs = (inside (c .before .before), search needs)
+write-row-requires c κs =
+    let free = c .before .before in
+    let start = free .before .before .before .before .before .before .before .before .before .before .before .before in
+    (omega (arith, inside free, start .pre .0 .least), search needs)
 
 cast-t25 : tie.Need-cast-t25
 cast-t25 c =

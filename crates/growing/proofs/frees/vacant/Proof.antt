@@ -7,8 +7,8 @@ use borrow.Author.Needs.{needs}
 use Rattle.sets.specs.Below.{someBelow}
 use Rattle.sets.proofs.Loops.{none-more, none-done, first-found, first-none}
 use Rattle.growing.specs.Rows.{isFree}
-use Rattle.growing.proofs.finds.vacant.Statement.{statement}
-use Rattle.growing.proofs.finds.vacant.Tie as tie
+use Rattle.growing.proofs.frees.vacant.Statement.{statement}
+use Rattle.growing.proofs.frees.vacant.Tie as tie
 
 abbrev Inv-loop : tie.InvT-loop
 Inv-loop t k r₀ r = someBelow r (λ s. isFree t s) ≡ false

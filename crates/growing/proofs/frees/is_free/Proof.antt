@@ -5,8 +5,8 @@ use borrow.Author.Needs.{needs}
 use borrow.Author.Tests.{not-true, not-false}
 use Rattle.rows.specs.Table.{isRow}
 use Rattle.rows.proofs.Facts.{row-inside}
-use Rattle.growing.proofs.finds.is_free.Statement.{statement}
-use Rattle.growing.proofs.finds.is_free.Tie as tie
+use Rattle.growing.proofs.frees.is_free.Statement.{statement}
+use Rattle.growing.proofs.frees.is_free.Tie as tie
 
 row : (c : tie.Else1) → isRow (c .before .before .before .args .t .now) (c .before .before .before .args .r) ≡ true
 row c = sym (c .before .is-row .ensures) ∙ not-false (c .before .is-row .result) (c .if1 .left)
