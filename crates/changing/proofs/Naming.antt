@@ -35,7 +35,7 @@ use Rattle.growing.specs.Copies.{markOf, targetOf, targetsOf}
 use Rattle.growing.specs.Rows.{wordsOver}
 use Rattle.growing.specs.declared.makes.Made.{Made}
 use Rattle.growing.specs.declared.makes.Made.the-variants.{Full}
-use Rattle.growing.specs.Growing.{Fitting, Made-row, Made-full, Makes}
+use Rattle.growing.specs.Growing.{Fitting, MadeRow, MadeFull, Makes}
 use Rattle.growing.proofs.Growing.{Within, within-after, makes-on, full-on}
 
 -- a word that goes on leaves the empty word as it is
@@ -115,7 +115,7 @@ module _ (t : Table) (tidy : Tidy t) (r : ℕ) (named : Named t r) where
 
   -- the word goes on, and n is the row for what is left
   module _ (on : Bool) (x : ℕ) (w : Word) (h : x < letters) (s : Spelled w) (short : length w < longest) (u : Table) (n most : ℕ)
-      (made : Made-row most t u (withName on w (words t (targetOf t r x))) n) where
+      (made : MadeRow most t u (withName on w (words t (targetOf t r x))) n) where
     target-here : getD (set (targetsOf t r) x n) x 0 ≡ n
     target-here = getD-set-same (targetsOf t r) x n 0 (rw (length-each (λ x. targetOf t r x) letters) h)
 
@@ -210,11 +210,11 @@ module _ (t : Table) (tidy : Tidy t) (r : ℕ) (named : Named t r) where
     one-more : suc (length (rest name)) + 1 ≡ suc (length name)
     one-more = omega (arith, rest-length name some)
 
-    pub path-full : (u : Table) → Made-full (suc (length (rest name))) t u (withName on left (words t next)) → Makes (suc (length name)) t u wanted Full
+    pub path-full : (u : Table) → MadeFull (suc (length (rest name))) t u (withName on left (words t next)) → Makes (suc (length name)) t u wanted Full
     path-full u full = rw one-more at (full-on full 1 wanted left-within)
 
-    module _ (u : Table) (n : ℕ) (made : Made-row (suc (length (rest name))) t u (withName on left (words t next)) n) where
-      made-there : Made-row (suc (length (rest name))) t u (withName on left (words t (targetOf t r first))) n
+    module _ (u : Table) (n : ℕ) (made : MadeRow (suc (length (rest name))) t u (withName on left (words t next)) n) where
+      made-there : MadeRow (suc (length (rest name))) t u (withName on left (words t (targetOf t r first))) n
       made-there = rw (targets-at first first-letter) at made
 
       pub path-fits : Fitting u (markOf t r) (set (targetsOf t r) first n)

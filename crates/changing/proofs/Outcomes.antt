@@ -34,7 +34,7 @@ use Rattle.rows.proofs.Words.{words-plain, words-none}
 use Rattle.rows.proofs.Growth.{grown-self}
 use Rattle.rows.proofs.Books.{list-names, no-empty, row-names, start-named}
 use Rattle.minimal.proofs.Theorems.{used-need}
-use Rattle.growing.specs.Growing.{Made-row, Made-full}
+use Rattle.growing.specs.Growing.{MadeRow, MadeFull}
 use Rattle.settling.specs.Settled.{fits, Startable, Settles, Changed}
 use Rattle.settling.proofs.Settling.{no-row-startable, clear-fits, settled}
 use Rattle.answers.specs.declared.cases.Refusal.{Refusal}
@@ -64,7 +64,7 @@ pub refused-changes : (t : Table) (call : Call) (r : Refusal) → run (bookOf t)
 refused-changes t call r e = record { answers = rw e; same = λ _. refl; long = refl; sound = λ s. s; lists = rw e }
 
 -- done, with a list that is the same
-pub same-changes : (t : Table) (call : Call) → run (bookOf t) call ≡ leaves (lists t) 0 → Changes t t call (answer.Done 0)
+same-changes : (t : Table) (call : Call) → run (bookOf t) call ≡ leaves (lists t) 0 → Changes t t call (answer.Done 0)
 same-changes t call e = record { answers = rw e; same = λ _. refl; long = refl; sound = λ s. s; lists = rw e }
 
 -- add and remove go by one rule
@@ -147,7 +147,7 @@ module _ (t : Table) (s : sound t ≡ true) (m : ℕ) (h : m < missions) where
         go false = refl
 
     -- the name is not yet as wanted, and the change was settled
-    pub set-settled : member (wordOf name) list ≡ not on → (after : Table) (done : Bool) → Changed t after m wanted done
+    set-settled : member (wordOf name) list ≡ not on → (after : Table) (done : Bool) → Changed t after m wanted done
         → Changes t after (setCall on m name) (settledAnswer done)
     set-settled e after done c =
         settled-changes t after (setCall on m name) m wanted done c (set-run (not on) e done (sym (c .says)) ∙ go on done)
@@ -159,12 +159,12 @@ module _ (t : Table) (s : sound t ≡ true) (m : ℕ) (h : m < missions) where
 
     -- what `path` comes to: at most 25 rows more, and the 25 above the room were free; so it is never full, and its row is settled
     module _ (u : Table) where
-      pub never-full : (l : Words) → Made-full (suc (length name)) t u l → ⊥
+      pub never-full : (l : Words) → MadeFull (suc (length name)) t u l → ⊥
       never-full l full =
           let (_, short, _) = name-parts name named in
           omega (arith, full .full, full .few, full .grows .grown .long, sound-facts t s .fits, short, sound-facts t s .tidy .least)
 
-      module _ (most n : ℕ) (made : Made-row most t u (withName on (wordOf name) (words t (start t m))) n) where
+      module _ (most n : ℕ) (made : MadeRow most t u (withName on (wordOf name) (words t (start t m))) n) where
         pub path-startable : Startable u n
         path-startable = record { named = made .named; no-empty = rw (made .has) (with-name-no-empty ∙ no-empty t (sound-facts t s .tidy) m h) }
           where

@@ -3,14 +3,14 @@ use Prim.Native.Nat.{ℕ, _+_, _<_}
 use native.Mathlib.Omega.{arith}
 use mathlib.Core.List.{List, List·Memᴰ}
 use Rattle.letters.specs.Letters.{letters}
-use Rattle.sets.specs.Sets.{Words}
+use Rattle.sets.specs.Sets.{Words, Filled}
 use Rattle.sets.specs.Residuals.{after, states}
-use Rattle.sets.proofs.States.{Filled, after-filled, after-in-states}
+use Rattle.sets.proofs.States.{after-filled, after-in-states}
 use Rattle.rows.specs.Table.{Table}
 use Rattle.rows.proofs.Growth.{grown-on}
 use Rattle.growing.specs.declared.makes.Made.{Made}
 use Rattle.growing.specs.declared.makes.Made.the-variants.{Row, Full}
-use Rattle.growing.specs.Growing.{Grows, Made-row, Made-full, Makes}
+use Rattle.growing.specs.Growing.{Grows, MadeRow, MadeFull, Makes}
 
 -- where the words l are needed, so are the words k
 abbrev pub Within : Words → Words → Type 0
@@ -28,7 +28,7 @@ grows-on {t} {u} {v} first second within =
     }
 
 -- a row is made for k, and then one for l
-pub makes-on : {a : ℕ} {t u : Table} {k : Words} {r : ℕ} → Made-row a t u k r → (b : ℕ) (v : Table) (l : Words) → Within k l
+pub makes-on : {a : ℕ} {t u : Table} {k : Words} {r : ℕ} → MadeRow a t u k r → (b : ℕ) (v : Table) (l : Words) → Within k l
     → (made : Made) → Makes b u v l made → Makes (a + b) t v l made
 makes-on first b v l within (Row s) second =
     record {
@@ -45,7 +45,7 @@ makes-on first b v l within Full second =
     }
 
 -- no row is free for k, and so none for l
-pub full-on : {a : ℕ} {t u : Table} {k : Words} → Made-full a t u k → (b : ℕ) (l : Words) → Within k l → Makes (a + b) t u l Full
+pub full-on : {a : ℕ} {t u : Table} {k : Words} → MadeFull a t u k → (b : ℕ) (l : Words) → Within k l → Makes (a + b) t u l Full
 full-on first b l within =
     record {
       grows =

@@ -16,13 +16,12 @@ use Rattle.letters.specs.Names.{longest}
 use Rattle.letters.specs.Words.{Word, Spelled}
 use Rattle.letters.specs.LetterSet.{countOf}
 use Rattle.letters.proofs.LetterSet.{count-but-one, count-positive}
-use Rattle.sets.specs.Sets.{Words, member}
+use Rattle.sets.specs.Sets.{Words, Filled, member}
 use Rattle.sets.specs.Residuals.{states}
 use Rattle.sets.proofs.Below.{tests-agree, all-below, below-all, below-greatest, greatest-least, greatest-some}
 use Rattle.sets.proofs.Loops.{first-some, first-zero}
 use Rattle.sets.proofs.Sets.{members-each, member-each, plain-ext}
 use Rattle.sets.proofs.Residuals.{member-after}
-use Rattle.sets.proofs.States.{Filled}
 use Rattle.model.specs.Lists.{missions}
 use Rattle.rows.specs.Table.{Table, width, rowCount, start, mark, height, target, last, inUse, usedRows}
 use Rattle.rows.specs.Words.{words}

@@ -6,9 +6,8 @@ use lib.ListN.{length, getD}
 use Rattle.letters.specs.Each.{Each}
 use Rattle.letters.specs.Letters.{letters}
 use Rattle.letters.specs.Names.{longest}
-use Rattle.sets.specs.Sets.{Words}
+use Rattle.sets.specs.Sets.{Words, Filled}
 use Rattle.sets.specs.Residuals.{states}
-use Rattle.sets.proofs.States.{Filled}
 use Rattle.rows.specs.Table.{Table, rowCount, usedRows}
 use Rattle.rows.specs.Words.{words}
 use Rattle.rows.specs.Tidy.{Named, Tidy}
@@ -30,18 +29,18 @@ pub record Grows (t u : Table) (l : Words) : Type 0 where
   pub useful : (ls : List Words) → (Filled l → List·Memᴰ l (states ls)) → Useful ls t → Useful ls u
 
 -- the number is that of the row with the words, or 0 where there are none; at most so many rows more are in use
-pub record Made-row (most : ℕ) (t u : Table) (l : Words) (r : ℕ) : Type 0 where
+pub record MadeRow (most : ℕ) (t u : Table) (l : Words) (r : ℕ) : Type 0 where
   pub grows : Grows t u l
   pub named : Named u r
   pub has : words u r ≡ l
   pub few : usedRows u ≤ usedRows t + most
 
 -- every row is in use, though fewer than so many more
-pub record Made-full (most : ℕ) (t u : Table) (l : Words) : Type 0 where
+pub record MadeFull (most : ℕ) (t u : Table) (l : Words) : Type 0 where
   pub grows : Grows t u l
   pub full : suc (usedRows u) ≡ rowCount u
   pub few : usedRows u < usedRows t + most
 
 abbrev pub Makes : ℕ → Table → Table → Words → Made → Type 0
-Makes most t u l (Row r) = Made-row most t u l r
-Makes most t u l Full = Made-full most t u l
+Makes most t u l (Row r) = MadeRow most t u l r
+Makes most t u l Full = MadeFull most t u l

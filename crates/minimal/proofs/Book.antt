@@ -10,7 +10,7 @@ use mathlib.Core.Logic.{inl, inr}
 use mathlib.Core.List.{[], _∷_}
 use lib.ListN.{length, getD, length-map, List·getD-map}
 use Rattle.letters.specs.Words.{Word, Spelled}
-use Rattle.sets.specs.Sets.{Words, member}
+use Rattle.sets.specs.Sets.{member}
 use Rattle.sets.specs.Automata.{Once, size, isState, end, leads, accepts, Languages, acyclic, reachable, equivalent}
 use Rattle.sets.proofs.Membership.{In, listed-in, in-listed, not-listed, each-in, getD-in, in-getD}
 use Rattle.sets.proofs.Sets.{member-each, plain-ext}

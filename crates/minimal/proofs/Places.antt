@@ -8,13 +8,13 @@ use mathlib.Core.List.{List, [], map}
 use Rattle.letters.specs.Each.{Each}
 use Rattle.letters.specs.LetterSet.{countOf}
 use Rattle.sets.specs.Below.{those}
-use Rattle.sets.specs.Sets.{Words}
+use Rattle.sets.specs.Sets.{Words, Filled}
 use Rattle.sets.specs.Residuals.{after, states, placeIn, need}
 use Rattle.sets.proofs.Membership.{In, each-in, getD-in, in-getD, in-map, map-in}
 use Rattle.sets.proofs.Below.{tests-agree}
 use Rattle.sets.proofs.Pigeons.{pigeons}
 use Rattle.sets.proofs.Distinct.{in-place, place-at}
-use Rattle.sets.proofs.States.{Filled, Carried, states-apart, list-in-states, after-in-states, states-all}
+use Rattle.sets.proofs.States.{Carried, states-apart, list-in-states, after-in-states, states-all}
 use Rattle.rows.specs.Table.{Table, rowCount, starts, target, inUse, usedRows}
 use Rattle.rows.specs.Tidy.{Used, Named, Arc, Tidy, Sound}
 use Rattle.rows.specs.Words.{words, lists}

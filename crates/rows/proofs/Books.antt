@@ -13,12 +13,11 @@ use Rattle.letters.specs.Letters.{letters}
 use Rattle.letters.specs.Words.{Word, Spelled, bytesOf}
 use Rattle.letters.specs.Names.{longest, isName}
 use Rattle.letters.proofs.Words.{name-bytes}
-use Rattle.sets.specs.Sets.{Words, member, Plain}
+use Rattle.sets.specs.Sets.{Words, Filled, member, Plain}
 use Rattle.sets.specs.Residuals.{after}
 use Rattle.sets.proofs.Sets.{member-each, members-each}
 use Rattle.sets.proofs.Membership.{In, here, each-map}
 use Rattle.sets.proofs.Below.{in-over, length-each, each-at, each-given}
-use Rattle.sets.proofs.States.{Filled}
 use Rattle.model.specs.Lists.{missions, listOf, hasNames, mayFollow}
 use Rattle.rows.specs.Table.{Table, isRow, start, starts, height, target}
 use Rattle.rows.specs.Walk.{walkFrom, accepts, hasArc, follows}

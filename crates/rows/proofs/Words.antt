@@ -19,12 +19,12 @@ use Rattle.letters.specs.Words.{Word, Spelled, order, before}
 use Rattle.letters.specs.Names.{longest}
 use Rattle.letters.proofs.Order.{order-cons, same-cons, lower-before}
 use Rattle.sets.specs.Below.{someBelow, over}
-use Rattle.sets.specs.Sets.{Words, member, Above, Rising, Plain}
+use Rattle.sets.specs.Sets.{Words, Filled, member, Above, Rising, Plain}
 use Rattle.sets.specs.Residuals.{after, residual}
 use Rattle.sets.proofs.Sets.{member-cond, member-each, members-each, members-above, rising-cond, plain-ext}
 use Rattle.sets.proofs.Residuals.{member-after, residual-none, plain-after}
 use Rattle.sets.proofs.Below.{some-at, member-over, rising-over}
-use Rattle.sets.proofs.States.{Filled, member-filled, filled-member, after-filled}
+use Rattle.sets.proofs.States.{member-filled, filled-member, after-filled}
 use Rattle.rows.specs.Table.{Table, isRow, mark, height, target}
 use Rattle.rows.specs.Walk.{walkFrom, accepts}
 use Rattle.rows.specs.Words.{behind, fan, rowWords, shortWords, words}

@@ -10,13 +10,13 @@ use lib.Dec.{eqb}
 use borrow.Author.Tests.{eqb-false, ne-eqb}
 use lib.ListN.{length, getD, length-map}
 use Rattle.letters.specs.Words.{Word, Spelled}
-use Rattle.sets.specs.Sets.{Words, member}
+use Rattle.sets.specs.Sets.{Words, Filled, member}
 use Rattle.sets.specs.Residuals.{after, states, placeIn}
 use Rattle.sets.specs.Automata.{Automaton, listed, Once, accepts, Languages}
 use Rattle.sets.proofs.Membership.{In}
 use Rattle.sets.proofs.Residuals.{member-after}
 use Rattle.sets.proofs.Distinct.{in-place, no-place}
-use Rattle.sets.proofs.States.{Filled, list-in-states, after-in-states, states-filled}
+use Rattle.sets.proofs.States.{list-in-states, after-in-states, states-filled}
 use Rattle.sets.proofs.Automata.{none-accepted, accepts-empty, accepts-step}
 
 -- the numbers below n

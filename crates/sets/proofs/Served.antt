@@ -11,14 +11,14 @@ use Rattle.letters.specs.Each.{Each}
 use Rattle.letters.specs.Letters.{letters}
 use Rattle.letters.specs.Words.{Word, Spelled}
 use Rattle.letters.proofs.Order.{same-refl}
-use Rattle.sets.specs.Sets.{Words, Plain, member}
+use Rattle.sets.specs.Sets.{Words, Filled, Plain, member}
 use Rattle.sets.specs.Residuals.{after, states}
 use Rattle.sets.specs.Automata.{Automaton, size, isState, accepts, Languages}
 use Rattle.sets.proofs.Membership.{In, listed-in}
 use Rattle.sets.proofs.Pigeons.{pigeons}
 use Rattle.sets.proofs.Sets.{plain-ext}
 use Rattle.sets.proofs.Residuals.{member-after, plain-after}
-use Rattle.sets.proofs.States.{Filled, Carried, states-all, states-apart}
+use Rattle.sets.proofs.States.{Carried, states-all, states-apart}
 use Rattle.sets.proofs.Automata.{none-accepted, accepts-step}
 
 plain-at : (ls : List Words) → Each Plain ls → (m : ℕ) → Plain (getD ls m [])

@@ -12,16 +12,11 @@ use lib.ListN.{length, getD}
 use Rattle.letters.specs.Letters.{letters}
 use Rattle.letters.specs.Words.{Word}
 use Rattle.letters.proofs.Order.{same-refl}
-use Rattle.sets.specs.Sets.{Words, member}
+use Rattle.sets.specs.Sets.{Words, Filled, member}
 use Rattle.sets.specs.Residuals.{after, residuals, height, allResiduals, states}
 use Rattle.sets.proofs.Membership.{In, here, there, nil-in, cons-in, append-in, in-left, in-right, Apart}
 use Rattle.sets.proofs.Below.{over-in, in-over}
 use Rattle.sets.proofs.Distinct.{distinct-in, in-distinct, distinct-apart}
-
--- the set has a word
-abbrev pub Filled : Words → Type 0
-Filled [] = ⊥
-Filled (w ∷ ws) = Unit {0}
 
 pub member-filled : (w : Word) (l : Words) → member w l ≡ true → Filled l
 unfolding member

@@ -10,6 +10,11 @@ use Rattle.letters.specs.Words.{Word, Spelled, order, before, same}
 abbrev pub Words : Type 0
 Words = List Word
 
+-- the list has a word
+abbrev pub Filled : Words → Type 0
+Filled [] = ⊥
+Filled (w ∷ ws) = Unit {0}
+
 -- is the word in the list?
 unfoldable pub member : Word → Words → Bool
 member w [] = false

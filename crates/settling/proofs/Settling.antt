@@ -21,7 +21,7 @@ use Rattle.model.proofs.Lists.{replace-same, replace-other}
 use Rattle.rows.specs.Table.{Table, width, rowCount, start, starts, mark, target, inUse, room}
 use Rattle.rows.specs.Words.{words, lists}
 use Rattle.rows.specs.Rules.{sound}
-use Rattle.rows.specs.Tidy.{Used, Named, Tidy}
+use Rattle.rows.specs.Tidy.{Used, Tidy}
 use Rattle.rows.specs.Reach.{reached}
 use Rattle.rows.specs.Growth.{Grown}
 use Rattle.rows.proofs.Facts.{row-inside, used-in-use}
@@ -130,8 +130,8 @@ module _ (t : Table) (m r : ℕ) (tidy : Tidy t) (below : m < missions) where
   either-tidy startable true = start-tidy startable
   either-tidy startable false = tidy
 
-  pub start-lists : Named t r → lists (withStart t m r) ≡ replace (lists t) m (words t r)
-  start-lists named =
+  start-lists : lists (withStart t m r) ≡ replace (lists t) m (words t r)
+  start-lists =
       ext-getD [] (lists (withStart t m r)) (replace (lists t) m (words t r))
       (lists-sixteen (withStart t m r) ∙ sym (length-set (lists t) m (words t r) ∙ lists-sixteen t)) list
     where
@@ -150,7 +150,7 @@ module _ (t : Table) (m r : ℕ) (tidy : Tidy t) (below : m < missions) where
   pub start-fits : Startable t r
       → leb (countOf (rowCount (withStart t m r)) (λ s. reached (withStart t m r) s)) (room (withStart t m r)) ≡ fits t m (words t r)
   start-fits startable =
-      rw (starts-need (withStart t m r) (start-tidy startable), start-lists (startable .named), start-long t m r below)
+      rw (starts-need (withStart t m r) (start-tidy startable), start-lists, start-long t m r below)
 
   -- the same, as `settle` tests it
   pub start-says : Startable t r → (v : Table) (n k : ℕ) → v ≡ withStart t m r → n ≡ countOf (rowCount v) (λ s. reached v s) → k ≡ room v
@@ -189,7 +189,7 @@ module _ (t u after : Table) (e : sound t ≡ true) (tidy : Tidy u) (grown : Gro
         refused = λ d. absurd (false≢true (sym d));
         long = ap length (s .table) ∙ (only-length v (λ r. reached v r) ∙ (start-long u m r below ∙ grown .long));
         sound = rw (s .table) (swept-sound v neat enough);
-        lists = ap lists (s .table) ∙ (swept-lists v neat ∙ (start-lists u m r tidy below (startable .named) ∙ rw same-lists));
+        lists = ap lists (s .table) ∙ (swept-lists v neat ∙ (start-lists u m r tidy below ∙ rw same-lists));
       }
   settled false s =
       let same : after ≡ t = s .table ∙ swept-grown t u e grown in
