@@ -46,7 +46,7 @@ pub fn find(t: &[u16], wanted: u16, targets: &[u16]) -> usize
     ensures { λ r. ⌜ r ≡ found (now (t .entry)) wanted (now (targets .entry)) ⌝ }
 {
     let k = row_count(t);
-    let mut r = 0;
+    let mut r = 1;
     while r < k {
         if agrees(t, r, wanted, targets) {
             return r;

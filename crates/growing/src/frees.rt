@@ -20,7 +20,7 @@ pub fn vacant(t: &[u16]) -> usize
     ensures { λ r. ⌜ r ≡ vacant (now (t .entry)) ⌝ }
 {
     let k = row_count(t);
-    let mut r = 0;
+    let mut r = 1;
     while r < k {
         if is_free(t, r) {
             return r;

@@ -1,7 +1,8 @@
 // The height over some targets.
 use letters::LETTERS;
 use rows::height;
-ghost use Prim.Native.Nat.{ℕ, _<_, max};
+use rows::higher;
+ghost use Prim.Native.Nat.{ℕ, _<_};
 ghost use mathlib.Core.Path.{_≡_};
 ghost use lib.ListN.{length, getD};
 ghost use Rattle.letters.specs.Letters.{letters};
@@ -18,13 +19,6 @@ fn above(t: &[u16], n: u16) -> usize
         return 0;
     }
     height(t, n as usize) as usize + 1
-}
-
-// The higher of two heights.
-fn higher(a: usize, b: usize) -> usize
-    ensures { λ h. ⌜ h ≡ max a b ⌝ }
-{
-    if a < b { b } else { a }
 }
 
 // "0 if there is no target, else one more than the greatest height among its targets".

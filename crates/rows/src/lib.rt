@@ -9,6 +9,7 @@ pub use table::MISSIONS;
 pub use table::MOST_ROWS;
 pub use table::WIDTH;
 pub use table::height;
+pub use table::higher;
 pub use table::in_use;
 pub use table::is_row;
 pub use table::last;

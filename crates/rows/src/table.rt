@@ -1,5 +1,5 @@
 // The table's length and room, a row's numbers by name, and the rows in use.
-ghost use Prim.Native.Nat.{_<_};
+ghost use Prim.Native.Nat.{_<_, max};
 ghost use mathlib.Core.Path.{_≡_};
 ghost use lib.ListN.{length};
 ghost use Rattle.letters.specs.Letters.{letters};
@@ -84,6 +84,13 @@ pub fn height(t: &[u16], r: usize) -> u16
     ensures { λ n. ⌜ n ≡ height (now (t .entry)) r ⌝ }
 {
     t[r * WIDTH + 1]
+}
+
+// The higher of two heights.
+pub fn higher(a: usize, b: usize) -> usize
+    ensures { λ h. ⌜ h ≡ max a b ⌝ }
+{
+    if a < b { b } else { a }
 }
 
 // "Number 2+x is the target row for letter x, or 0 for none."

@@ -4,11 +4,12 @@
 use letters::LETTERS;
 use letters::LONGEST;
 use rows::height;
+use rows::higher;
 use rows::in_use;
 use rows::last;
 use rows::row_count;
 use rows::target;
-ghost use Prim.Native.Nat.{_≤_, _<_, max};
+ghost use Prim.Native.Nat.{_≤_, _<_};
 ghost use mathlib.Core.Path.{_≡_};
 ghost use mathlib.Core.Bool.{_&&_};
 ghost use lib.Dec.{eqb};
@@ -22,12 +23,6 @@ ghost use Rattle.rules.specs.Pointed.{Pointed, Tested, pointsFrom};
 pub enum Asked {
     Height(usize),
     Broken,
-}
-
-fn greater(a: usize, b: usize) -> usize
-    ensures { λ r. ⌜ r ≡ max a b ⌝ }
-{
-    if a < b { b } else { a }
 }
 
 // What the target asks; a row in use is marked as pointed at.
@@ -58,7 +53,7 @@ fn arcs_ok(t: &[u16], r: usize, pointed: &mut [u16]) -> bool
         let Asked::Height(h) = follow(t, n, pointed) else {
             return false;
         };
-        top = greater(top, h);
+        top = higher(top, h);
         x += 1;
     }
     if height(t, r) as usize != top {

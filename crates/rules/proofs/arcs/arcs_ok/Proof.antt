@@ -104,8 +104,8 @@ returns c =
     let broken = sym (called .follow .ensures .0) ∙ c .enum-told .given .1 in
     not-passed (sym (arcs-broken (args .t .now) (args .r) (l .x) _ (omega arith) (there .target .ensures) broken)) (omega arith)
 
-greater-requires : tie.Need-greater-requires Inv-loop μ-loop
-greater-requires c κs = search needs
+higher-requires : tie.Need-higher-requires Inv-loop μ-loop
+higher-requires c κs = search needs
 
 add-x : tie.Need-add-x Inv-loop μ-loop
 add-x c = search needs
@@ -118,7 +118,7 @@ loop-again c =
     let called = c .before .before .before .before .before .before in
     let at-loop = called .before .before .before .before in (
       omega arith,
-      rw (c .greater .ensures)
+      rw (c .higher .ensures)
           (followed-more _ _ (at-loop .loop .inv .1) (called .before .before .target .ensures)
           (sym (called .follow .ensures .0) ∙ c .before .before .h .given .1) (called .follow .ensures .1)),
     )
@@ -193,7 +193,7 @@ arcs-ok-spec =
     enum-told
     same-length
     returns
-    greater-requires
+    higher-requires
     add-x
     loop-less
     loop-again
