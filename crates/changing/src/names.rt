@@ -31,8 +31,8 @@ fn settled(done: bool) -> Answer
     }
 }
 
-// On a sound book, a name that is not yet as wanted. The 25 rows above the room are enough for the
-// new ones.
+// On a sound book, a name that is not yet as wanted. The path is never full: it makes at most 25
+// rows, and as many are free above the room.
 fn change_name(t: &mut [u16], m: usize, name: &[u8], on: bool) -> Answer
     requires { ⌜ Settable (now t) m (now name) × (member (wordOf (now name)) (listOf (lists (now t)) m) ≡ not on) ⌝ }
     ensures { λ a. ⌜ Changes (now (t .entry)) (now (t .exit)) (setCall on m (now (name .entry))) a ⌝ }
