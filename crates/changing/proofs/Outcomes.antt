@@ -39,9 +39,11 @@ use Rattle.settling.specs.Settled.{fits, Startable, Settles, Changed}
 use Rattle.settling.proofs.Settling.{no-row-startable, clear-fits, settled}
 use Rattle.answers.specs.declared.cases.Refusal.{Refusal}
 use Rattle.answers.specs.declared.cases.Refusal.the-variants.{NoRoom}
+use Rattle.answers.specs.declared.cases.Answer.{Answer}
 use Rattle.answers.specs.declared.cases.Answer.the-variants as answer
 use Rattle.answers.specs.Replies.{refusalNumber}
 use Rattle.calls.specs.Books.{bookOf}
+use Rattle.calls.specs.Promises.{Answers}
 use Rattle.changing.proofs.Naming.{with-name-empty}
 use Rattle.changing.specs.Promises.{setCall, settledAnswer, Changes}
 
@@ -58,14 +60,16 @@ beq-other true false e = refl
 beq-other false true e = refl
 beq-other false false e = absurd (false≢true (sym e))
 
--- refused: nothing changes
+-- nothing changes: on a refusal, and where the list is as it was
+unchanged : (t : Table) (call : Call) (a : Answer) → Answers t call a → run (bookOf t) call .lists ≡ lists t → Changes t t call a
+unchanged t call a answers same = record { answers = answers; same = λ _. refl; long = refl; sound = λ s. s; lists = sym same }
+
 pub refused-changes : (t : Table) (call : Call) (r : Refusal) → run (bookOf t) call ≡ refused (refusalNumber r) (bookOf t)
     → Changes t t call (answer.Refused r)
-refused-changes t call r e = record { answers = rw e; same = λ _. refl; long = refl; sound = λ s. s; lists = rw e }
+refused-changes t call r e = unchanged t call (answer.Refused r) (rw e) (rw e)
 
--- done, with a list that is the same
 same-changes : (t : Table) (call : Call) → run (bookOf t) call ≡ leaves (lists t) 0 → Changes t t call (answer.Done 0)
-same-changes t call e = record { answers = rw e; same = λ _. refl; long = refl; sound = λ s. s; lists = rw e }
+same-changes t call e = unchanged t call (answer.Done 0) (rw e) (rw e)
 
 -- add and remove go by one rule
 set-ruled : (t : Table) (on : Bool) (m : ℕ) (name : List ℕ) → run (bookOf t) (setCall on m name) ≡ ruled (bookOf t) (setRule on (bookOf t) m name)
