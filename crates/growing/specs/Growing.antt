@@ -41,6 +41,7 @@ pub record MadeFull (most : ℕ) (t u : Table) (l : Words) : Type 0 where
   pub full : suc (usedRows u) ≡ rowCount u
   pub few : usedRows u < usedRows t + most
 
+-- what is promised of the row for the words l, with at most so many rows more in use
 abbrev pub Makes : ℕ → Table → Table → Words → Made → Type 0
 Makes most t u l (Row r) = MadeRow most t u l r
 Makes most t u l Full = MadeFull most t u l

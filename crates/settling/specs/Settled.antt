@@ -23,7 +23,7 @@ pub record Startable (t : Table) (r : ℕ) : Type 0 where
   pub named : Named t r
   pub no-empty : member [] (words t r) ≡ false
 
--- the lists with the words of row r for mission m need no more states than there is room
+-- the sixteen lists, with l for mission m, do not "need more states than room"
 abbrev pub fits : Table → ℕ → Words → Bool
 fits t m l = leb (need (replace (lists t) m l)) (room t)
 
