@@ -1,6 +1,7 @@
 -- An answer is found again from its reply: the number tells a refusal from an answer and one refusal from another, and the values tell the
 -- rest. So two answers with the same reply are the same. Assumes nothing.
-use Prim.Native.Nat.{ℕ, zero, suc}
+use Prim.Native.Nat.{ℕ, zero, suc, _<_}
+use native.Mathlib.Omega.{arith}
 use mathlib.Core.Path.{_≡_, refl}
 use mathlib.Core.Bool.{cond}
 use mathlib.Core.List.{List, [], _∷_}
@@ -50,6 +51,14 @@ refusal-again refusal.NotEmpty done refused = refl
 refusal-again refusal.TooMany done refused = refl
 refusal-again refusal.NotUnder done refused = refl
 refusal-again refusal.NoRoom done refused = refl
+
+-- a refusal's number is above 0
+pub refusal-positive : (r : Refusal) → 0 < refusalNumber r
+refusal-positive r = go (refusalNumber r) (refusal-again {A = ℕ} r 0 (λ _. 1))
+  where
+    go : (n : ℕ) → numbered {A = ℕ} n 0 (λ _. 1) ≡ 1 → 0 < n
+    go zero e = absurd (omega arith)
+    go (suc n) e = omega arith
 
 -- the answer that a reply comes from
 abbrev answerOf : Reply → Answer

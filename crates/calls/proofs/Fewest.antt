@@ -14,7 +14,7 @@ use Rattle.rows.proofs.Books.{lists-plain}
 use Rattle.answers.specs.declared.cases.Answer.{Answer}
 use Rattle.answers.specs.declared.replies.Reply.{Reply}
 use Rattle.answers.specs.Replies.{answerReply}
-use Rattle.calls.specs.Books.{bookOf}
+use Rattle.admitting.specs.Books.{bookOf}
 use Rattle.calls.specs.Promises.{Answers}
 
 used-value : (t : Table) → sound t ≡ true → run (bookOf t) used .value ≡ need (lists t)

@@ -22,7 +22,7 @@ use Rattle.rows.proofs.Books.{list-names}
 use Rattle.answers.specs.declared.cases.Refusal.{Refusal}
 use Rattle.answers.specs.declared.cases.Answer.the-variants as answer
 use Rattle.answers.specs.Replies.{refusalNumber}
-use Rattle.calls.specs.Books.{bookOf}
+use Rattle.admitting.specs.Books.{bookOf}
 use Rattle.calls.specs.Promises.{Writes}
 
 -- the mission's list is the words of its start

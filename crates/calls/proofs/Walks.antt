@@ -23,8 +23,9 @@ use Rattle.minimal.proofs.Theorems.{sound-ask, sound-next}
 use Rattle.answers.specs.declared.cases.Asked.{Asked}
 use Rattle.answers.specs.declared.cases.Following.{Following}
 use Rattle.answers.specs.Replies.{askReply, nextReply, replyOf}
+use Rattle.admitting.specs.Books.{bookOf}
+use Rattle.calls.specs.Walks.{askWalk, nextWalk}
 use Rattle.calls.specs.Promises.{Asks, Follows}
-use Rattle.calls.specs.Books.{bookOf, askWalk, nextWalk}
 
 -- what a call comes to when done decides only where nothing refuses it
 same-outcome : (b : Book) (n : ℕ) (d e : Outcome) → (n ≡ 0 → d ≡ e) → outcome b n d ≡ outcome b n e

@@ -1,3 +1,3 @@
 -- What the calls promise, by the model's outcome on what a table holds. Assumes nothing.
-pub mod Books
+pub mod Walks
 pub mod Promises

@@ -14,7 +14,8 @@ use Rattle.answers.specs.declared.cases.Answer.{Answer}
 use Rattle.answers.specs.declared.cases.Asked.{Asked}
 use Rattle.answers.specs.declared.cases.Following.{Following}
 use Rattle.answers.specs.Replies.{answerReply, askReply, nextReply, replyOf}
-use Rattle.calls.specs.Books.{bookOf, askWalk, nextWalk}
+use Rattle.admitting.specs.Books.{bookOf}
+use Rattle.calls.specs.Walks.{askWalk, nextWalk}
 
 -- a call answers the number and the value of the model: all that check, count, rank and used do
 abbrev pub Answers : Table → Call → Answer → Type 0

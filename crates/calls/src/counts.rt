@@ -1,12 +1,11 @@
 // "count the names".
+use admitting::Admission;
+use admitting::admit;
 use answers::Answer;
 use answers::Refusal;
 use counting::MOST;
 use counting::count_names;
-use rows::MISSIONS;
 use rows::MOST_ROWS;
-use rows::length_ok;
-use rules::sound;
 ghost use Prim.Native.Nat.{_<_};
 ghost use mathlib.Core.Path.{_≡_};
 ghost use mathlib.Core.Bool.{true};
@@ -31,14 +30,8 @@ fn count_list(t: &[u16], m: usize) -> Answer
 pub fn count(t: &[u16], m: u32) -> Answer
     ensures { λ a. ⌜ Answers (now (t .entry)) (count m) a ⌝ }
 {
-    if !length_ok(t) {
-        return Answer::Refused(Refusal::Length);
+    match admit(t, m, true, Refusal::NotSound) {
+        Admission::Admitted => count_list(t, m as usize),
+        Admission::Refused(r) => Answer::Refused(r),
     }
-    if MISSIONS <= m as usize {
-        return Answer::Refused(Refusal::Mission);
-    }
-    if !sound(t) {
-        return Answer::Refused(Refusal::NotSound);
-    }
-    count_list(t, m as usize)
 }

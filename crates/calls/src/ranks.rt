@@ -1,15 +1,14 @@
 // "rank: how many names of the list stand before a given name, which need not be on it".
+use admitting::Admission;
+use admitting::admit;
 use answers::Answer;
 use answers::Refusal;
 use counting::MOST;
 use counting::count_names;
 use counting::rank_from;
 use letters::is_name;
-use rows::MISSIONS;
 use rows::MOST_ROWS;
-use rows::length_ok;
 use rows::start;
-use rules::sound;
 ghost use Prim.Native.Nat.{_<_};
 ghost use mathlib.Core.Path.{_≡_};
 ghost use mathlib.Core.Bool.{true};
@@ -35,17 +34,8 @@ fn rank_in_list(t: &[u16], m: usize, name: &[u8]) -> Answer
 pub fn rank(t: &[u16], m: u32, name: &[u8]) -> Answer
     ensures { λ a. ⌜ Answers (now (t .entry)) (rank m (now (name .entry))) a ⌝ }
 {
-    if !length_ok(t) {
-        return Answer::Refused(Refusal::Length);
+    match admit(t, m, is_name(name), Refusal::Name) {
+        Admission::Admitted => rank_in_list(t, m as usize, name),
+        Admission::Refused(r) => Answer::Refused(r),
     }
-    if MISSIONS <= m as usize {
-        return Answer::Refused(Refusal::Mission);
-    }
-    if !is_name(name) {
-        return Answer::Refused(Refusal::Name);
-    }
-    if !sound(t) {
-        return Answer::Refused(Refusal::NotSound);
-    }
-    rank_in_list(t, m as usize, name)
 }

@@ -1,15 +1,14 @@
 // "nth: the name with n names before it".
+use admitting::Admission;
+use admitting::admit;
 use answers::Answer;
 use answers::Refusal;
 use counting::MOST;
 use counting::count_names;
 use letters::LONGEST;
 use listing::write_word;
-use rows::MISSIONS;
 use rows::MOST_ROWS;
-use rows::length_ok;
 use rows::start;
-use rules::sound;
 ghost use Prim.Native.Nat.{_≤_, _<_};
 ghost use mathlib.Core.Path.{_≡_};
 ghost use mathlib.Core.Bool.{true};
@@ -39,17 +38,8 @@ fn nth_in_list(t: &[u16], m: usize, n: u32, out: &mut [u8]) -> Answer
 pub fn nth(t: &[u16], m: u32, n: u32, out: &mut [u8]) -> Answer
     ensures { λ a. ⌜ Writes (now (t .entry)) m n (now (out .entry)) (now (out .exit)) a ⌝ }
 {
-    if !length_ok(t) {
-        return Answer::Refused(Refusal::Length);
+    match admit(t, m, LONGEST <= out.len(), Refusal::Buffer) {
+        Admission::Admitted => nth_in_list(t, m as usize, n, out),
+        Admission::Refused(r) => Answer::Refused(r),
     }
-    if MISSIONS <= m as usize {
-        return Answer::Refused(Refusal::Mission);
-    }
-    if out.len() < LONGEST {
-        return Answer::Refused(Refusal::Buffer);
-    }
-    if !sound(t) {
-        return Answer::Refused(Refusal::NotSound);
-    }
-    nth_in_list(t, m as usize, n, out)
 }

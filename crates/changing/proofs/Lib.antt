@@ -1,4 +1,6 @@
--- How tight the promises of the changes are, that a change leaves the other lists the same, and what the proofs here share. Assumes nothing.
+-- What every change comes to, how tight the promises are, that a change leaves the other lists the same, and what the proofs here share.
+-- Assumes nothing.
+pub mod Changes
 pub mod Tight
 mod Naming
 mod Outcomes

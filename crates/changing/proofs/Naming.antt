@@ -18,13 +18,13 @@ use Rattle.letters.specs.Words.{Word, Spelled, wordOf, rest, order, same}
 use Rattle.letters.specs.Names.{longest}
 use Rattle.letters.proofs.Words.{word-rest, rest-length, spelled-rest}
 use Rattle.letters.proofs.Order.{same-cons, same-eq}
-use Rattle.sets.specs.Sets.{Words, member, Plain}
+use Rattle.sets.specs.Sets.{Words, member}
 use Rattle.sets.specs.Residuals.{after}
 use Rattle.sets.proofs.Sets.{member-each, members-each, plain-ext}
 use Rattle.sets.proofs.Below.{length-each, each-at}
-use Rattle.sets.proofs.Residuals.{member-after, plain-after}
+use Rattle.sets.proofs.Residuals.{member-after}
 use Rattle.model.specs.Rules.{withName}
-use Rattle.model.proofs.Names.{member-with-name, plain-with-name}
+use Rattle.model.proofs.Names.{member-with-name, plain-with-name, with-name-empty, after-with-name}
 use Rattle.rows.specs.Table.{Table}
 use Rattle.rows.specs.Words.{words}
 use Rattle.rows.specs.Tidy.{Named, Tidy}
@@ -32,24 +32,11 @@ use Rattle.rows.proofs.Facts.{no-row, used-row, named-cases, target-named}
 use Rattle.rows.proofs.Words.{fan-empty, fan-word, fan-plain, words-plain, words-short, words-none, empty-word, words-target}
 use Rattle.rows.proofs.Growth.{named-kept, words-kept}
 use Rattle.growing.specs.Copies.{markOf, targetOf, targetsOf}
-use Rattle.growing.specs.Rows.{wordsOver}
+use Rattle.growing.specs.Rows.{endMark, wordsOver}
 use Rattle.growing.specs.declared.makes.Made.{Made}
 use Rattle.growing.specs.declared.makes.Made.the-variants.{Full}
 use Rattle.growing.specs.Growing.{Fitting, MadeRow, MadeFull, Makes}
 use Rattle.growing.proofs.Growing.{Within, within-after, makes-on, full-on}
-
--- a word that goes on leaves the empty word as it is
-pub with-name-empty : (on : Bool) (x : ℕ) (w : Word) (l : Words) → member [] (withName on (x ∷ w) l) ≡ member [] l
-unfolding order
-with-name-empty on x w l = member-with-name on [] (x ∷ w) l
-
--- what is left of the list after the word's first letter is the list that is left with what is left of the word
-pub after-with-name : (on : Bool) (x : ℕ) (w : Word) (l : Words) → x < letters → Spelled w → Plain l
-    → after x (withName on (x ∷ w) l) ≡ withName on w (after x l)
-after-with-name on x w l h s p =
-    plain-ext (after x (withName on (x ∷ w) l)) _ (plain-after x _ (plain-with-name on (x ∷ w) l (h, s) p))
-    (plain-with-name on w (after x l) s (plain-after x l p))
-    (λ v spelled. rw (member-after, member-with-name on (x ∷ v), member-with-name on v, member-after, same-cons, eq-eqb x x refl))
 
 -- a row's mark and targets, or those of a missing row
 module _ (t : Table) (tidy : Tidy t) (r : ℕ) (named : Named t r) where
@@ -69,14 +56,14 @@ module _ (t : Table) (tidy : Tidy t) (r : ℕ) (named : Named t r) where
         | inr e ↦ rw (no-row t r e, words-none t r (no-row t r e))
       ]
 
-  pub target-of-named : (x : ℕ) → x < letters → Named t (targetOf t r x)
+  target-of-named : (x : ℕ) → x < letters → Named t (targetOf t r x)
   target-of-named x h =
       elim (named-cases named) [
         | inl u ↦ rw (used-row u) (target-named t tidy r x u h)
         | inr e ↦ rw (no-row t r e) (λ some. absurd (omega arith))
       ]
 
-  pub target-of-words : (x : ℕ) → x < letters → words t (targetOf t r x) ≡ after x (words t r)
+  target-of-words : (x : ℕ) → x < letters → words t (targetOf t r x) ≡ after x (words t r)
   unfolding after
   target-of-words x h =
       elim (named-cases named) [
@@ -95,22 +82,22 @@ module _ (t : Table) (tidy : Tidy t) (r : ℕ) (named : Named t r) where
 
   -- the word ends here
   module _ (on : Bool) where
-    pub end-fits : Fitting t (cond on 2 1) (targetsOf t r)
+    pub end-fits : Fitting t (endMark on) (targetsOf t r)
     end-fits =
         record {
-          some = elim on as (λ b. 0 < cond b 2 1) [ true ↦ omega arith | false ↦ omega arith ];
-          most = elim on as (λ b. cond b 2 1 ≤ 2) [ true ↦ omega arith | false ↦ omega arith ];
+          some = elim on as (λ b. 0 < endMark b) [ true ↦ omega arith | false ↦ omega arith ];
+          most = elim on as (λ b. endMark b ≤ 2) [ true ↦ omega arith | false ↦ omega arith ];
           named = λ x h. rw (targets-at x h) (target-of-named x h);
           short = λ x h. rw (targets-at x h) (target-of-short x h);
         }
 
-    pub end-words : wordsOver t (cond on 2 1) (targetsOf t r) ≡ withName on [] (words t r)
+    pub end-words : wordsOver t (endMark on) (targetsOf t r) ≡ withName on [] (words t r)
     unfolding order
     end-words =
-        plain-ext _ (withName on [] (words t r)) (fan-plain (cond on 2 1) _ (λ x. words-plain t _)) (plain-with-name on [] _ tt (words-plain t r)) same-words
+        plain-ext _ (withName on [] (words t r)) (fan-plain (endMark on) _ (λ x. words-plain t _)) (plain-with-name on [] _ tt (words-plain t r)) same-words
       where
-        same-words : (v : Word) → Spelled v → member v (wordsOver t (cond on 2 1) (targetsOf t r)) ≡ member v (withName on [] (words t r))
-        same-words [] s = rw (fan-empty, member-with-name) (elim on as (λ b. eqb (cond b 2 1) 2 ≡ b) [ true ↦ refl | false ↦ refl ])
+        same-words : (v : Word) → Spelled v → member v (wordsOver t (endMark on) (targetsOf t r)) ≡ member v (withName on [] (words t r))
+        same-words [] s = rw (fan-empty, member-with-name) (elim on as (λ b. eqb (endMark b) 2 ≡ b) [ true ↦ refl | false ↦ refl ])
         same-words (x ∷ v) s = rw (fan-word, lt-ltb x letters (s .0), targets-at x (s .0), target-of-words x (s .0), member-after, member-with-name)
 
   -- the word goes on, and n is the row for what is left
@@ -136,7 +123,7 @@ module _ (t : Table) (tidy : Tidy t) (r : ℕ) (named : Named t r) where
             go true e d = rw (same-eq v w e) short
             go false e d = member-each (λ v. length v < longest) _ (target-of-short x h) v d
 
-    pub step-fits : Fitting u (markOf t r) (set (targetsOf t r) x n)
+    step-fits : Fitting u (markOf t r) (set (targetsOf t r) x n)
     step-fits =
         record {
           some = mark-fits .0;
@@ -151,7 +138,7 @@ module _ (t : Table) (tidy : Tidy t) (r : ℕ) (named : Named t r) where
           ];
         }
 
-    pub step-words : wordsOver u (markOf t r) (set (targetsOf t r) x n) ≡ withName on (x ∷ w) (words t r)
+    step-words : wordsOver u (markOf t r) (set (targetsOf t r) x n) ≡ withName on (x ∷ w) (words t r)
     step-words =
         plain-ext _ (withName on (x ∷ w) (words t r)) (fan-plain (markOf t r) _ (λ y. words-plain u _))
         (plain-with-name on (x ∷ w) _ (h, s) (words-plain t r)) same-words

@@ -19,7 +19,7 @@ use Rattle.rows.specs.Words.{lists}
 use Rattle.minimal.specs.Renumbered.{Renumbered}
 use Rattle.minimal.proofs.Theorems.{renumbered-self, same-lists-renumbered}
 use Rattle.answers.specs.declared.cases.Answer.{Answer}
-use Rattle.calls.specs.Books.{bookOf}
+use Rattle.admitting.specs.Books.{bookOf}
 use Rattle.calls.proofs.Tight.{answers-tight}
 use Rattle.changing.specs.Promises.{Changes}
 

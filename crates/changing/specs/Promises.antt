@@ -15,7 +15,7 @@ use Rattle.rows.specs.Rules.{sound}
 use Rattle.answers.specs.declared.cases.Refusal.the-variants.{NoRoom}
 use Rattle.answers.specs.declared.cases.Answer.{Answer}
 use Rattle.answers.specs.declared.cases.Answer.the-variants as answer
-use Rattle.calls.specs.Books.{bookOf}
+use Rattle.admitting.specs.Books.{bookOf}
 use Rattle.calls.specs.Promises.{Answers}
 
 -- "add and remove one name": one call with a wanted state
@@ -28,9 +28,9 @@ pub record Settable (t : Table) (m : ℕ) (name : List ℕ) : Type 0 where
   pub mission : m < missions
   pub named : isName name ≡ true
 
--- the answer to a change that was settled: "1 if the list changed", or "the sixteen lists after the change need more states than room"
-abbrev pub settledAnswer : Bool → Answer
-settledAnswer done = cond done (answer.Done 1) (answer.Refused NoRoom)
+-- the answer to a change that was settled: done with its value, or "the sixteen lists after the change need more states than room"
+abbrev pub settledAnswer : Bool → ℕ → Answer
+settledAnswer done value = cond done (answer.Done value) (answer.Refused NoRoom)
 
 -- the number and the value are the model's; where the value is 0 (each refusal, and "1 if the list changed, else 0, and then the table is the
 -- same") the table is the same, number for number; a sound book stays one, and its lists are the model's

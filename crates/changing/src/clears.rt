@@ -1,10 +1,9 @@
 // "clear one list".
+use admitting::Admission;
+use admitting::admit;
 use answers::Answer;
 use answers::Refusal;
-use rows::MISSIONS;
-use rows::length_ok;
 use rows::start;
-use rules::sound;
 use settling::settle;
 ghost use Prim.Native.Nat.{_<_};
 ghost use mathlib.Core.Path.{_≡_};
@@ -29,14 +28,8 @@ fn clear_list(t: &mut [u16], m: usize) -> Answer
 pub fn clear(t: &mut [u16], m: u32) -> Answer
     ensures { λ a. ⌜ Changes (now (t .entry)) (now (t .exit)) (clear m) a ⌝ }
 {
-    if !length_ok(t) {
-        return Answer::Refused(Refusal::Length);
+    match admit(t, m, true, Refusal::NotSound) {
+        Admission::Admitted => clear_list(t, m as usize),
+        Admission::Refused(r) => Answer::Refused(r),
     }
-    if MISSIONS <= m as usize {
-        return Answer::Refused(Refusal::Mission);
-    }
-    if !sound(t) {
-        return Answer::Refused(Refusal::NotSound);
-    }
-    clear_list(t, m as usize)
 }

@@ -7,3 +7,4 @@ mod paths;
 pub use clears::clear;
 pub use names::add;
 pub use names::remove;
+pub use names::settled;

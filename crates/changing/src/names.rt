@@ -1,13 +1,12 @@
 // "add and remove one name".
 use super::paths::path;
+use admitting::Admission;
+use admitting::admit;
 use answers::Answer;
 use answers::Refusal;
 use growing::Made;
 use letters::is_name;
-use rows::MISSIONS;
-use rows::length_ok;
 use rows::start;
-use rules::sound;
 use settling::settle;
 use walking::ends;
 use walking::walk_list;
@@ -21,11 +20,11 @@ ghost use Rattle.rows.specs.Words.{lists};
 ghost use Rattle.changing.specs.Promises.{setCall, settledAnswer, Settable, Changes};
 
 // The answer to a change that was settled.
-fn settled(done: bool) -> Answer
-    ensures { λ a. ⌜ a ≡ settledAnswer done ⌝ }
+pub fn settled(done: bool, value: u32) -> Answer
+    ensures { λ a. ⌜ a ≡ settledAnswer done value ⌝ }
 {
     if done {
-        Answer::Done(1)
+        Answer::Done(value)
     } else {
         Answer::Refused(Refusal::NoRoom)
     }
@@ -39,7 +38,7 @@ fn change_name(t: &mut [u16], m: usize, name: &[u8], on: bool) -> Answer
 {
     let r = start(t, m);
     match path(t, r, name, on) {
-        Made::Row(n) => settled(settle(t, m, n)),
+        Made::Row(n) => settled(settle(t, m, n), 1),
         Made::Full => Answer::Refused(Refusal::NoRoom),
     }
 }
@@ -56,23 +55,14 @@ fn set_name(t: &mut [u16], m: usize, name: &[u8], on: bool) -> Answer
     change_name(t, m, name, on)
 }
 
-// The refusals of add and remove, in 01's order.
+// add and remove are one call with a wanted state.
 fn set(t: &mut [u16], m: u32, name: &[u8], on: bool) -> Answer
     ensures { λ a. ⌜ Changes (now (t .entry)) (now (t .exit)) (setCall on m (now (name .entry))) a ⌝ }
 {
-    if !length_ok(t) {
-        return Answer::Refused(Refusal::Length);
+    match admit(t, m, is_name(name), Refusal::Name) {
+        Admission::Admitted => set_name(t, m as usize, name, on),
+        Admission::Refused(r) => Answer::Refused(r),
     }
-    if MISSIONS <= m as usize {
-        return Answer::Refused(Refusal::Mission);
-    }
-    if !is_name(name) {
-        return Answer::Refused(Refusal::Name);
-    }
-    if !sound(t) {
-        return Answer::Refused(Refusal::NotSound);
-    }
-    set_name(t, m as usize, name, on)
 }
 
 pub fn add(t: &mut [u16], m: u32, name: &[u8]) -> Answer

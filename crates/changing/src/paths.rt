@@ -1,12 +1,11 @@
 // The row for a row's words with one word on or off.
 use growing::Made;
+use growing::end_mark;
 use growing::make;
 use growing::mark_of;
 use growing::targets_of;
 use letters::letter_of;
 ghost use Prim.Native.Nat.{suc, _≤_};
-ghost use mathlib.Core.Path.{_≡_};
-ghost use mathlib.Core.Bool.{cond};
 ghost use lib.ListN.{length};
 ghost use Rattle.letters.specs.Words.{Spelled, wordOf};
 ghost use Rattle.letters.specs.Names.{longest};
@@ -14,13 +13,6 @@ ghost use Rattle.model.specs.Rules.{withName};
 ghost use Rattle.rows.specs.Words.{words};
 ghost use Rattle.rows.specs.Tidy.{Named, Tidy};
 ghost use Rattle.growing.specs.Growing.{Makes};
-
-// The mark of a row where the word ends, or does not.
-fn end_mark(on: bool) -> u16
-    ensures { λ k. ⌜ k ≡ cond on 2 1 ⌝ }
-{
-    if on { 2 } else { 1 }
-}
 
 // The row's own targets stay, but for the one that the word goes on with. No row in use is touched: at
 // most one row more for each letter, and one for the end.

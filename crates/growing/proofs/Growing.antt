@@ -7,7 +7,8 @@ use Rattle.sets.specs.Sets.{Words, Filled}
 use Rattle.sets.specs.Residuals.{after, states}
 use Rattle.sets.proofs.States.{after-filled, after-in-states}
 use Rattle.rows.specs.Table.{Table}
-use Rattle.rows.proofs.Growth.{grown-on}
+use Rattle.rows.specs.Tidy.{Tidy}
+use Rattle.rows.proofs.Growth.{grown-self, grown-on}
 use Rattle.growing.specs.declared.makes.Made.{Made}
 use Rattle.growing.specs.declared.makes.Made.the-variants.{Row, Full}
 use Rattle.growing.specs.Growing.{Grows, MadeRow, MadeFull, Makes}
@@ -19,7 +20,16 @@ Within k l = (ls : List Words) → (Filled l → List·Memᴰ l (states ls)) →
 pub within-after : (x : ℕ) → x < letters → (l : Words) → Within (after x l) l
 within-after x h l ls needed some = after-in-states ls (needed (after-filled x l some)) x h some
 
-grows-on : {t u v : Table} {k l : Words} → Grows t u k → Grows u v l → Within k l → Grows t v l
+-- nothing was made
+pub grows-self : (t : Table) → Tidy t → (l : Words) → Grows t t l
+grows-self t tidy l = record { tidy = tidy; grown = grown-self t; useful = λ ls needed us. us }
+
+-- what was made for k was made for l
+pub grows-within : {t u : Table} {k l : Words} → Grows t u k → Within k l → Grows t u l
+grows-within grows within =
+    record { tidy = grows .tidy; grown = grows .grown; useful = λ ls needed. grows .useful ls (within ls needed) }
+
+pub grows-on : {t u v : Table} {k l : Words} → Grows t u k → Grows u v l → Within k l → Grows t v l
 grows-on {t} {u} {v} first second within =
     record {
       tidy = second .tidy;
@@ -48,12 +58,7 @@ makes-on first b v l within Full second =
 pub full-on : {a : ℕ} {t u : Table} {k : Words} → MadeFull a t u k → (b : ℕ) (l : Words) → Within k l → Makes (a + b) t u l Full
 full-on first b l within =
     record {
-      grows =
-          record {
-            tidy = first .grows .tidy;
-            grown = first .grows .grown;
-            useful = λ ls needed. first .grows .useful ls (within ls needed);
-          };
+      grows = grows-within (first .grows) within;
       full = first .full;
       few = omega (arith, first .few);
     }

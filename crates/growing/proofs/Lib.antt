@@ -2,3 +2,4 @@
 pub mod Writing
 pub mod Making
 pub mod Growing
+pub mod Targets

@@ -1,7 +1,7 @@
 -- What `make` comes to, case by case. A row in use that agrees has the words already. Mark 1 over no target has none. A new row has a mark and
 -- targets as no other row has, and is higher than they are, so the table stays tidy; every other row keeps its numbers, so the rows in use keep
 -- their words. Its height is at most 24, because the words of its targets are shorter than the longest name. Assumes nothing.
-use Prim.Native.Nat.{ℕ, _+_, _*_, _≤_, _<_}
+use Prim.Native.Nat.{ℕ, _+_, _-_, _*_, _≤_, _<_}
 use native.Mathlib.Omega.{arith}
 use native.Mathlib.Decide.{ℕ-discrete}
 use mathlib.Core.Path.{_≡_, refl, sym, _∙_}
@@ -34,12 +34,19 @@ use Rattle.rows.proofs.Growth.{grown-self, mark-kept, height-kept, target-kept,
 use Rattle.growing.specs.declared.makes.Made.the-variants.{Row, Full}
 use Rattle.growing.specs.Rows.{has, agrees, found, isFree, vacant, heightOver, wordsOver, Written}
 use Rattle.growing.specs.Growing.{Fitting, Makes}
+use Rattle.growing.proofs.Growing.{grows-self}
 
 -- the row of u has this mark and these targets
 record Has (u : Table) (r k : ℕ) (ts : List ℕ) : Type 0 where
   used : Used u r
   marked : mark u r ≡ k
   targeted : (x : ℕ) → x < letters → target u r x ≡ getD ts x 0
+
+free-row : (t : Table) (r : ℕ) → isFree t r ≡ true → (0 < r) × (r < rowCount t) × (mark t r ≡ 0)
+free-row t r e =
+    let (row, free) = and-eq-true-iff _ (eqb (mark t r) 0) .0 e in
+    let (positive, inside) = row-inside t r row in
+    (positive, inside, eqb-true (mark t r) 0 free)
 
 module _ (t : Table) (r k : ℕ) (ts : List ℕ) where
   agrees-has : agrees t r k ts ≡ true → Has t r k ts
@@ -56,12 +63,6 @@ module _ (t : Table) (r k : ℕ) (ts : List ℕ) where
   has-agrees h =
       rw (used-in-use (h .used), eq-eqb (mark t r) k (h .marked))
       (below-all _ letters (λ x letter. eq-eqb (target t r x) (getD ts x 0) (h .targeted x letter)))
-
-  free-row : isFree t r ≡ true → (0 < r) × (r < rowCount t) × (mark t r ≡ 0)
-  free-row e =
-      let (row, free) = and-eq-true-iff _ (eqb (mark t r) 0) .0 e in
-      let (positive, inside) = row-inside t r row in
-      (positive, inside, eqb-true (mark t r) 0 free)
 
 module _ (t : Table) (k : ℕ) (ts : List ℕ) (tidy : Tidy t) (fitting : Fitting t k ts) where
   pub targets-inside : (x : ℕ) → x < letters → getD ts x 0 < rowCount t
@@ -84,8 +85,8 @@ module _ (t : Table) (k : ℕ) (ts : List ℕ) (tidy : Tidy t) (fitting : Fittin
       elim (named-cases (fitting .named x h)) [
         | inl u ↦
             let l = words t (getD ts x 0) in
-            let short = members-each (λ w. length w ≤ 23) l (λ w m. omega (arith, member-each (λ w. length w < longest) l (fitting .short x h) w m)) in
-            let low = height-short t tidy (getD ts x 0) u 23 short in
+            let short = members-each (λ w. length w ≤ longest - 1) l (λ w m. omega (arith, member-each (λ w. length w < longest) l (fitting .short x h) w m)) in
+            let low = height-short t tidy (getD ts x 0) u (longest - 1) short in
             rw (ne-eqb (getD ts x 0) 0 (λ e. omega (arith, u .positive))) (omega arith)
         | inr e ↦ rw e (omega arith)
       ]
@@ -97,7 +98,7 @@ module _ (t : Table) (k : ℕ) (ts : List ℕ) (tidy : Tidy t) (fitting : Fittin
   unfolding member
   none-made one low =
       record {
-        grows = record { tidy = tidy; grown = grown-self t; useful = λ ls f us. us };
+        grows = grows-self t tidy _;
         named = λ h. absurd (omega arith);
         has = plain-ext (words t 0) _ (words-plain t 0) (fan-plain k _ (λ x. words-plain t (getD ts x 0))) same;
         few = omega arith;
@@ -121,7 +122,7 @@ module _ (t : Table) (k : ℕ) (ts : List ℕ) (tidy : Tidy t) (fitting : Fittin
   found-made h =
       let row = agrees-has t (found t k ts) k ts (first-some (λ r. agrees t r k ts) (rowCount t) h .1) in
       record {
-        grows = record { tidy = tidy; grown = grown-self t; useful = λ ls f us. us };
+        grows = grows-self t tidy _;
         named = λ _. row .used;
         has = has-words t tidy (grown-self t) (found t k ts) row;
         few = omega arith;
@@ -130,7 +131,7 @@ module _ (t : Table) (k : ℕ) (ts : List ℕ) (tidy : Tidy t) (fitting : Fittin
   pub full-made : vacant t ≡ 0 → Makes 1 t t (wordsOver t k ts) Full
   full-made e =
       record {
-        grows = record { tidy = tidy; grown = grown-self t; useful = λ ls f us. us };
+        grows = grows-self t tidy _;
         full = count-positive (rowCount t) (λ r. inUse t r) (omega (arith, tidy .least)) (rw (no-row t 0 refl)) all;
         few = omega arith;
       }
@@ -148,10 +149,10 @@ module _ (t : Table) (k : ℕ) (ts : List ℕ) (tidy : Tidy t) (fitting : Fittin
   module _ (u : Table) (some : k ≡ 1 → heightOver t ts ≡ 0 → ⊥) (none : found t k ts ≡ 0) (r : ℕ) (free : isFree t r ≡ true)
       (written : Written t u r k (heightOver t ts) ts) where
     positive : 0 < r
-    positive = free-row t r k ts free .0
+    positive = free-row t r free .0
 
     empty : mark t r ≡ 0
-    empty = free-row t r k ts free .2
+    empty = free-row t r free .2
 
     rows : rowCount u ≡ rowCount t
     rows = rw (written .long)
@@ -170,7 +171,7 @@ module _ (t : Table) (k : ℕ) (ts : List ℕ) (tidy : Tidy t) (fitting : Fittin
     new-has : Has u r k ts
     new-has =
         record {
-          used = record { positive = positive; inside = omega (arith, free-row t r k ts free .1); marked = omega (arith, written .marked, fitting .some) };
+          used = record { positive = positive; inside = omega (arith, free-row t r free .1); marked = omega (arith, written .marked, fitting .some) };
           marked = written .marked;
           targeted = written .targeted;
         }
@@ -190,6 +191,9 @@ module _ (t : Table) (k : ℕ) (ts : List ℕ) (tidy : Tidy t) (fitting : Fittin
 
     kept : (s : ℕ) → Used t s → Used u s
     kept s = used-kept t u new-grown s
+
+    still-arc : (s : ℕ) → Used t s → (x : ℕ) → Arc t s x → Arc u s x
+    still-arc s old x b = record { used = kept s old; letter = b .letter; there = rw (target-kept t u new-grown s x old (b .letter)) (b .there) }
 
     -- a target of the new row was in use
     new-target : (x : ℕ) → Arc u r x → Used t (target u r x)
@@ -264,12 +268,9 @@ module _ (t : Table) (k : ℕ) (ts : List ℕ) (tidy : Tidy t) (fitting : Fittin
               | inr old ↦
                   rw (height-kept t u new-grown s old)
                   (tidy .tight s top old
-                  (λ x b. rw (target-kept t u new-grown s x old (b .letter), height-kept t u new-grown _ (tidy .targets s x b)) at (f x (new-arc s old x b))))
+                  (λ x b. rw (target-kept t u new-grown s x old (b .letter), height-kept t u new-grown _ (tidy .targets s x b)) at (f x (still-arc s old x b))))
             ]
           where
-            new-arc : (s : ℕ) → Used t s → (x : ℕ) → Arc t s x → Arc u s x
-            new-arc s old x b = record { used = kept s old; letter = b .letter; there = rw (target-kept t u new-grown s x old (b .letter)) (b .there) }
-
             new-above : (x : ℕ) → x < letters → ((x : ℕ) → Arc u r x → height u (target u r x) < top) → above t (getD ts x 0) ≤ top
             new-above x h g =
                 elim (named-cases (fitting .named x h)) [
@@ -283,7 +284,7 @@ module _ (t : Table) (k : ℕ) (ts : List ℕ) (tidy : Tidy t) (fitting : Fittin
         lasts : (s : ℕ) → Used u s → last u s ≡ 0
         lasts s v =
             elim (old-or-new s v) [
-              | inl e ↦ rw e (written .rest ∙ tidy .zeros r 39 positive (free-row t r k ts free .1) empty (omega arith))
+              | inl e ↦ rw e (written .rest ∙ tidy .zeros r 39 positive (free-row t r free .1) empty (omega arith))
               | inr old ↦ last-kept t u new-grown s old ∙ tidy .lasts s old
             ]
 
@@ -293,7 +294,7 @@ module _ (t : Table) (k : ℕ) (ts : List ℕ) (tidy : Tidy t) (fitting : Fittin
               | inl e ↦ rw e (new-arc (rw (e, written .marked) at one))
               | inr old ↦
                   let (x, b) = tidy .arc s old (sym (mark-kept t u new-grown s old) ∙ one) in
-                  (x, record { used = v; letter = b .letter; there = rw (target-kept t u new-grown s x old (b .letter)) (b .there) })
+                  (x, still-arc s old x b)
             ]
           where
             new-arc : k ≡ 1 → (x : ℕ) × Arc u r x

@@ -1,7 +1,7 @@
 -- The row for a mark and 37 targets: the one in use that agrees, a free one, its height, its words, and how it is written. Assumes nothing.
 use Prim.Native.Nat.{ℕ, _/_, _<_}
 use mathlib.Core.Path.{_≡_}
-use mathlib.Core.Bool.{Bool, _&&_}
+use mathlib.Core.Bool.{Bool, cond, _&&_}
 use mathlib.Core.List.{List}
 use lib.Dec.{eqb}
 use lib.ListN.{length, getD}
@@ -34,6 +34,10 @@ vacant t = firstBelow (rowCount t) (λ r. isFree t r)
 -- 3. "the height is 0 if there is no target, else one more than the greatest height among its targets"
 abbrev pub heightOver : Table → List ℕ → ℕ
 heightOver t targets = greatest letters (λ x. above t (getD targets x 0))
+
+-- "2 in use and a name may end here", and 1 where none may
+abbrev pub endMark : Bool → ℕ
+endMark ends = cond ends 2 1
 
 -- the words of a row with this mark and these targets
 abbrev pub wordsOver : Table → ℕ → List ℕ → Words

@@ -10,4 +10,5 @@ mod writes;
 pub use copies::mark_of;
 pub use copies::targets_of;
 pub use makes::Made;
+pub use makes::end_mark;
 pub use makes::make;

@@ -4,14 +4,22 @@ use super::frees::vacant;
 use super::heights::height_over;
 use super::writes::write_row;
 use letters::LETTERS;
+ghost use mathlib.Core.Path.{_≡_};
 ghost use Rattle.rows.specs.Tidy.{Tidy};
-ghost use Rattle.growing.specs.Rows.{wordsOver};
+ghost use Rattle.growing.specs.Rows.{endMark, wordsOver};
 ghost use Rattle.growing.specs.Growing.{Fitting, Makes};
 
 // The row that was asked for, found or new, or 0 where it would have no words; or no row is free.
 pub enum Made {
     Row(u16),
     Full,
+}
+
+// The mark of a row where a name may end, or none may.
+pub fn end_mark(ends: bool) -> u16
+    ensures { λ k. ⌜ k ≡ endMark ends ⌝ }
+{
+    if ends { 2 } else { 1 }
 }
 
 // A new row is made only where none in use agrees.

@@ -76,6 +76,12 @@ count-more (suc n) f g h = go (f n) (g n) (h n) (count-more n f g h)
     go true b e rest = rw (e refl) (omega arith)
     go false b e rest = omega arith
 
+-- no more than there are
+pub count-most : (n : ℕ) (test : ℕ → Bool) → countOf n test ≤ n
+unfolding countOf
+count-most zero test = omega arith
+count-most (suc n) test = omega (arith, count-most n test, flag-le (test n))
+
 -- one more at most, where only one number may pass one test and not the other
 pub count-but-one : (n : ℕ) (f g : ℕ → Bool) (x : ℕ) → ((y : ℕ) → y < n → (y ≡ x → ⊥) → f y ≡ g y) → countOf n f ≤ suc (countOf n g)
 unfolding countOf

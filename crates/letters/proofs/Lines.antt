@@ -1,19 +1,21 @@
 -- The lines of a list, from a place on: the name there, its end, and what stands behind it. The laws are shown of a whole list, byte by
 -- byte up to the first line end, and then carried to a place. Assumes nothing.
-use Prim.Native.Nat.{ℕ, suc, _+_, _-_, _≤_, _<_}
-use mathlib.Core.Path.{_≡_, refl, ap}
-use mathlib.Core.Bool.{true, false, _&&_}
+use Prim.Native.Nat.{ℕ, zero, suc, _+_, _-_, _≤_, _<_}
+use mathlib.Core.Path.{_≡_, refl, sym, ap, _∙_}
+use mathlib.Core.Bool.{Bool, true, false, cond, _&&_, and-eq-true-iff}
 use mathlib.Core.List.{List, [], _∷_, map}
 use native.Mathlib.Nat.{add-zero, add-suc, add-sub-cancel-left}
 use native.Mathlib.Numerals.{add-one}
 use native.Mathlib.Omega.{arith}
-use borrow.Author.Tests.{ne-eqb, lt-ltb, le-ltb}
-use lib.Dec.{eqb, ltb, leb·suc-suc}
+use borrow.Author.Tests.{ne-eqb, leb-true, lt-ltb, le-ltb}
+use lib.Dec.{eqb, leb, ltb, leb·suc-suc}
 use lib.ListN.{length, take, drop, getD, drop-of-length-le, length-take, length-drop}
 use lib.Seq.{drop-cons, drop-drop}
+use Rattle.letters.specs.Each.{every, Each}
 use Rattle.letters.specs.Letters.{lineEnd}
-use Rattle.letters.specs.Words.{wordOf, before}
-use Rattle.letters.specs.Lists.{upToEnd, nameAt, nameEnd, linesOf, ended, rises, namesOf}
+use Rattle.letters.specs.Words.{Word, wordOf, before}
+use Rattle.letters.specs.Names.{isName}
+use Rattle.letters.specs.Lists.{longestList, upToEnd, nameAt, nameEnd, onFirst, linesOf, ended, rises, namesOf, isList}
 use Rattle.letters.proofs.Tests.{by-test}
 
 -- ---- a whole list
@@ -60,6 +62,35 @@ ended-first =
     (λ b e. rw e)
     (λ b c l e ih. rw (e, leb·suc-suc) ih)
 
+-- there are no more lines than bytes
+pub lines-few : (bytes : List ℕ) → length (linesOf bytes) ≤ length bytes
+unfolding linesOf
+lines-few [] = omega arith
+lines-few (b ∷ bytes) = go (eqb b lineEnd) (linesOf bytes) (lines-few bytes)
+  where
+    go : (end : Bool) (lines : List (List ℕ)) → length lines ≤ length bytes → length (cond end ([] ∷ lines) (onFirst b lines)) ≤ suc (length bytes)
+    go true lines few = omega arith
+    go false [] few = omega arith
+    go false (line ∷ lines) few = omega arith
+
+-- what holds of every name holds of every word of a list of names
+pub names-each : (P : Word → Type 0) → ((bytes : List ℕ) → isName bytes ≡ true → P (wordOf bytes))
+    → (lines : List (List ℕ)) → every isName lines ≡ true → Each P (map wordOf lines)
+names-each P f [] h = tt
+names-each P f (line ∷ lines) h =
+    let (one, more) = and-eq-true-iff (isName line) (every isName lines) .0 h in
+    (f line one, names-each P f lines more)
+
+-- what is known of a list for load
+pub list-parts : (bytes : List ℕ) → isList bytes ≡ true
+    → (length bytes ≤ longestList) × (ended bytes ≡ true) × (every isName (linesOf bytes) ≡ true) × (rises (namesOf bytes) ≡ true)
+unfolding isList
+list-parts bytes e =
+    let (short, rest) = and-eq-true-iff (leb (length bytes) longestList) _ .0 e in
+    let (ended, more) = and-eq-true-iff (ended bytes) _ .0 rest in
+    let (named, rising) = and-eq-true-iff (every isName (linesOf bytes)) _ .0 more in
+    (leb-true _ _ short, ended, named, rising)
+
 -- ---- the name at a place of a list
 
 pub name-part : (s : List ℕ) (at : ℕ) → take (nameEnd s at - at) (drop at s) ≡ nameAt s at
@@ -83,6 +114,15 @@ pub end-later : (s : List ℕ) (at : ℕ) → at < length s → (getD s at 0 ≡
 unfolding upToEnd
 end-later s at h n = rw (drop-cons s at 0, ne-eqb _ _ n, add-one at) (omega arith)
 
+-- seen from inside the name, its end is the same
+pub end-within : (s : List ℕ) (at d : ℕ) → at ≤ length s → d ≤ length (nameAt s at) → nameEnd s (at + d) ≡ nameEnd s at
+end-within s at zero h l = rw (add-zero at)
+end-within s at (suc d) h l =
+    let before = end-within s at d h (omega arith) in
+    let inside : at + d < length s = omega (arith, nameEnd-le s at h) in
+    let later = end-later s (at + d) inside (λ e. omega (arith, before, end-here s (at + d) inside e)) in
+    rw (add-suc at d, ← add-one (at + d)) (sym later ∙ before)
+
 -- ---- the lines from a place on: the name there, and those behind it
 
 behind-at : (s : List ℕ) (at : ℕ) → behind (drop at s) ≡ drop (nameEnd s at + 1) s
@@ -103,7 +143,7 @@ ended-none s at h l = rw (ended-at s at h, le-ltb (length (nameAt s at)) (length
 
 -- ---- and whether their words rise
 
-names-at : (s : List ℕ) (at : ℕ) → at < length s → namesOf (drop at s) ≡ wordOf (nameAt s at) ∷ namesOf (drop (nameEnd s at + 1) s)
+pub names-at : (s : List ℕ) (at : ℕ) → at < length s → namesOf (drop at s) ≡ wordOf (nameAt s at) ∷ namesOf (drop (nameEnd s at + 1) s)
 names-at s at h = ap (map wordOf) (lines-at s at h)
 
 pub rises-more : (s : List ℕ) (at next : ℕ) (a b : List ℕ) → at < length s → next ≡ nameEnd s at + 1 → next < length s
@@ -115,3 +155,8 @@ rises-more s at next a b h e l p q = rw (p, q, names-at s at h, ← e, names-at 
 pub rises-last : (s : List ℕ) (at : ℕ) → at < length s → length s ≤ nameEnd s at + 1 → rises (namesOf (drop at s)) ≡ true
 unfolding rises linesOf
 rises-last s at h l = rw (names-at s at h, drop-of-length-le s l)
+
+pub rises-rest : (w : Word) (ws : List Word) → rises (w ∷ ws) ≡ true → rises ws ≡ true
+unfolding rises
+rises-rest w [] h = refl
+rises-rest w (v ∷ ws) h = and-eq-true-iff (before w v) (rises (v ∷ ws)) .0 h .1

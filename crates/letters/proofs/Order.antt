@@ -1,10 +1,11 @@
 -- The laws of the order of words, on which sets of words stand: only equal words are the same, the order turns round with its words, and
--- what stands before is transitive. Each law is shown of two letters first, by the clauses of `compare`; `then` carries it from the first
--- letters and the rests to the words. Nothing here knows what a letter is. Assumes nothing.
+-- what stands before is transitive; and what stands between two words that begin alike begins as they do. Each law is shown of two letters
+-- first, by the clauses of `compare`; `then` carries it from the first letters and the rests to the words. Nothing here knows what a letter
+-- is. Assumes nothing.
 use Prim.Native.Nat.{ℕ, _<_, compare, Ordering, Ordering·lt, Ordering·eq, Ordering·gt}
 use mathlib.Core.Path.{_≡_, refl}
-use mathlib.Core.Bool.{true, false, _&&_, and-eq-true-iff}
-use mathlib.Core.List.{[], _∷_}
+use mathlib.Core.Bool.{true, false, _&&_, false≢true, and-eq-true-iff}
+use mathlib.Core.List.{[], _∷_, _++_}
 use lib.Dec.{isEq, eqb}
 use borrow.Author.Tests.{eqb-true}
 use Rattle.letters.specs.Words.{Word, then, order, isBefore, before, same}
@@ -95,3 +96,18 @@ before-trans (x ∷ u) (y ∷ v) (z ∷ w) h k = go (before-trans u v w) (compar
     go rests Ordering·eq Ordering·eq e f = cc (compare-eq x y e, rests (cc) (cc))
     go rests Ordering·eq Ordering·gt e f = cc
     go rests Ordering·gt p e f = cc
+
+-- what stands between two words that begin alike begins as they do
+pub between-begins : (u v w b : Word) → before (u ++ v) b ≡ true → before b (u ++ w) ≡ true → (rest : Word) × (b ≡ u ++ rest)
+unfolding order
+between-begins [] v w b h k = (b, refl)
+between-begins (x ∷ u) v w [] h k = absurd (false≢true h)
+between-begins (x ∷ u) v w (y ∷ b) h k = go (between-begins u v w b) (compare x y) refl
+  where
+    go : (before (u ++ v) b ≡ true → before b (u ++ w) ≡ true → (rest : Word) × (b ≡ u ++ rest))
+        → (o : Ordering) → compare x y ≡ o → (rest : Word) × (y ∷ b ≡ x ∷ u ++ rest)
+    go rests Ordering·lt e = absurd (false≢true (rw (compare-flip x y, e) at k))
+    go rests Ordering·eq e =
+        let (rest, d) = rests (rw e at h) (rw (compare-flip x y, e) at k) in
+        (rest, cc (compare-eq x y e, d))
+    go rests Ordering·gt e = absurd (false≢true (rw e at h))

@@ -13,6 +13,7 @@ pub use bytes::letter_of;
 pub use lists::LINE_END;
 pub use lists::is_list;
 pub use lists::name_at;
+pub use lists::name_count;
 pub use lists::name_end;
 pub use names::LONGEST;
 pub use names::Order;

@@ -3,6 +3,7 @@ use super::names::is_before;
 use super::names::is_name;
 ghost use mathlib.Core.Path.{_≡_};
 ghost use mathlib.Core.Bool.{_&&_};
+ghost use lib.ListN.{length};
 ghost use Rattle.letters.specs.Each.{every};
 ghost use Rattle.letters.specs.Names.{isName};
 ghost use Rattle.letters.specs.Lists.{nameAt, nameEnd, linesOf, ended, rises, namesOf, isList};
@@ -37,6 +38,19 @@ pub fn name_at(s: &[u8], at: usize) -> &[u8]
     }
     let end = name_end(s, at);
     &s[at..end]
+}
+
+// How many names there are.
+pub fn name_count(s: &[u8]) -> usize
+    ensures { λ n. ⌜ n ≡ length (namesOf (now (s .entry))) ⌝ }
+{
+    let mut n = 0;
+    let mut at = 0;
+    while at < s.len() {
+        at = name_end(s, at) + 1;
+        n += 1;
+    }
+    n
 }
 
 // Has every line its end, and is every line a name?

@@ -27,7 +27,7 @@ use Rattle.rows.proofs.Books.{lists-sixteen, lists-plain, lists-names, starts-n
 use Rattle.minimal.specs.Book.{automaton}
 use Rattle.minimal.specs.Places.{OneToOne}
 use Rattle.minimal.specs.Renumbered.{Renumbered}
-use Rattle.minimal.proofs.Places.{reached-need, used-one-to-one, used-rows-need, useful-rows}
+use Rattle.minimal.proofs.Places.{reached-need, used-in-states, used-one-to-one, used-rows-need, useful-rows}
 use Rattle.minimal.proofs.Book.{state-used, automaton-size, automaton-once, automaton-languages}
 use Rattle.minimal.proofs.Book.{automaton-acyclic, automaton-reached, automaton-useful, automaton-different}
 use Rattle.minimal.proofs.Renumbering.{renumbered-sound}
@@ -40,6 +40,10 @@ place-one-to-one t e = used-one-to-one t (sound-facts t e)
 -- So a sound book has as many rows in use as its lists need.
 pub used-need : (t : Table) → sound t ≡ true → usedRows t ≡ need (lists t)
 used-need t e = used-rows-need t (sound-facts t e)
+
+-- The words of every row in use are left of the lists after some letters.
+pub sound-useful : (t : Table) → sound t ≡ true → Useful (lists t) t
+sound-useful t e = used-in-states t (sound-facts t e)
 
 -- In a tidy table as many rows are reached from the starts as the lists need.
 pub starts-need : (t : Table) → Tidy t → countOf (rowCount t) (λ r. reached t r) ≡ need (lists t)

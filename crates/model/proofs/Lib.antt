@@ -2,4 +2,5 @@
 pub mod Lists
 pub mod Refusals
 pub mod Names
+pub mod Combined
 pub mod Changes

@@ -2,12 +2,13 @@
 -- applies is the lowest. That they do is one test that computes, for each call. Assumes nothing.
 use Prim.Native.Nat.{ℕ, _≤_, _<_}
 use mathlib.Core.Path.{_≡_, refl, sym, _∙_}
-use mathlib.Core.Bool.{Bool, true, false, cond, _&&_, false≢true, and-eq-true-iff}
+use mathlib.Core.Bool.{Bool, true, false, cond, not, _&&_, false≢true, and-eq-true-iff}
 use mathlib.Core.Logic.{_⊎_, inl, inr}
-use mathlib.Core.List.{List, [], _∷_}
+use mathlib.Core.List.{List, [], _∷_, _++_}
 use native.Mathlib.Omega.{arith}
-use borrow.Author.Tests.{leb-true, lt-ltb, le-ltb}
+use borrow.Author.Tests.{leb-true, leb-false, lt-ltb, le-ltb}
 use lib.Dec.{leb, ltb}
+use Rattle.letters.specs.Each.{Each}
 use Rattle.sets.proofs.Membership.{In, here, there, nil-in, cons-in}
 use Rattle.model.specs.Lists.{lastMission, missions}
 use Rattle.model.specs.Call.{Call, Book}
@@ -70,6 +71,34 @@ lowest-given b c =
       applies = given-applies (rule b c .refusals);
       lowest = given-lowest 1 (rule b c .refusals) (rule-orderly b c);
     }
+
+-- where none is given, none applies
+pub given-none : (rs : List Refusal) → Each (λ r. 0 < r .number) rs → given rs ≡ 0 → Each (λ r. r .applies ≡ false) rs
+given-none [] numbered none = tt
+given-none (r ∷ rs) (some, numbered) none = go (given-none rs numbered) (r .applies) refl none
+  where
+    go : (given rs ≡ 0 → Each (λ r. r .applies ≡ false) rs) → (t : Bool) → r .applies ≡ t → cond t (r .number) (given rs) ≡ 0
+        → Each (λ r. r .applies ≡ false) (r ∷ rs)
+    go rest true e d = absurd (omega arith)
+    go rest false e d = (e, rest d)
+
+-- what the first ones give is given, whatever stands behind them
+pub given-first : (rs more : List Refusal) → 0 < given rs → given (rs ++ more) ≡ given rs
+given-first [] more some = absurd (omega arith)
+given-first (r ∷ rs) more some = go (given-first rs more) (r .applies) some
+  where
+    go : (0 < given rs → given (rs ++ more) ≡ given rs) → (t : Bool) → 0 < cond t (r .number) (given rs)
+        → cond t (r .number) (given (rs ++ more)) ≡ cond t (r .number) (given rs)
+    go rest true d = refl
+    go rest false d = rest d
+
+-- "over" and "at most" are each the other's opposite
+pub over-most : (a b : ℕ) → ltb b a ≡ not (leb a b)
+over-most a b = go (leb a b) refl
+  where
+    go : (t : Bool) → leb a b ≡ t → ltb b a ≡ not t
+    go true e = le-ltb b a (leb-true a b e)
+    go false e = lt-ltb b a (leb-false a b e)
 
 -- "a mission number over 15"
 pub mission-over : (m : ℕ) → missions ≤ m → ltb lastMission m ≡ true

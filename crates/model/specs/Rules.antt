@@ -1,6 +1,6 @@
 -- Each call: what refuses it, in rising order, and what it answers when done. Assumes nothing.
 use Prim.Native.Nat.{ℕ}
-use mathlib.Core.Bool.{Bool, not, cond, Bool·beq}
+use mathlib.Core.Bool.{Bool, not, cond, _&&_, _||_, Bool·beq}
 use mathlib.Core.List.{List, [], _∷_}
 use lib.Dec.{eqb}
 use lib.ListN.{length}
@@ -93,6 +93,10 @@ loadRule b m bytes =
 -- "1 both together, 2 common names, 3 names of a that b has not"
 abbrev pub combined : ℕ → Words → Words → Words
 combined op k l = cond (eqb op 1) (both k l) (cond (eqb op 2) (common k l) (without k l))
+
+-- whether a word is in the combined list, by whether it is in each
+abbrev pub chosen : ℕ → Bool → Bool → Bool
+chosen op a b = cond (eqb op 1) (a || b) (cond (eqb op 2) (a && b) (a && not b))
 
 -- "combine the lists of missions a and b into the empty list of mission c": "combine 1 if the result has a name, else 0"
 abbrev pub combineRule : Book → ℕ → ℕ → ℕ → ℕ → Rule

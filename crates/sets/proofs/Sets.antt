@@ -89,6 +89,11 @@ unfolding member
 members-each P [] f = tt
 members-each P (v ∷ vs) f = (f v (rw same-refl), members-each P vs (λ u m. f u (rw (m, or-true))))
 
+pub no-members : (l : Words) → ((u : Word) → member u l ≡ true → ⊥) → l ≡ []
+unfolding member
+no-members [] none = refl
+no-members (v ∷ vs) none = absurd (none v (rw same-refl))
+
 pub member-above : (w : Word) (l : Words) → Above w l → (u : Word) → member u l ≡ true → before w u ≡ true
 member-above w l = member-each (λ u. before w u ≡ true) l
 
@@ -168,7 +173,7 @@ rising-append (w ∷ ws) l r s f =
     (each-append _ ws l (r .0) (members-above w l (λ v. f w v (rw same-refl))), rising-append ws l (r .1) s (λ u v m. f u v (rw (m, or-true))))
 
 -- sets with the same words
-above-absent : (w : Word) (l : Words) → Above w l → member w l ≡ false
+pub above-absent : (w : Word) (l : Words) → Above w l → member w l ≡ false
 unfolding member
 above-absent w [] h = refl
 above-absent w (v ∷ vs) h = rw (before-not-same w v (h .0)) (above-absent w vs (h .1))

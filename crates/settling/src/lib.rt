@@ -7,3 +7,4 @@ mod spreads;
 mod sweeps;
 
 pub use settles::settle;
+pub use sweeps::sweep;

@@ -12,7 +12,7 @@ use Rattle.model.proofs.Refusals.{mission-over, mission-under}
 use Rattle.rows.specs.Table.{lengthOk}
 use Rattle.rows.proofs.Rules.{start-inside}
 use Rattle.answers.specs.Replies.{done, replyOf}
-use Rattle.calls.specs.Books.{askWalk}
+use Rattle.calls.specs.Walks.{askWalk}
 use Rattle.calls.proofs.Walks.{walk-asks}
 use Rattle.calls.proofs.asks.ask.Statement.{statement}
 use Rattle.calls.proofs.asks.ask.Tie as tie

@@ -1,74 +1,49 @@
--- `rank` meets its promise: the branches settle the refusals up to "book not sound" one after the other. Assumes nothing.
-use mathlib.Core.Path.{_≡_, sym, _∙_}
-use mathlib.Core.Bool.{true, false}
+-- `rank` meets its promise: its first tests refuse it, or leave a sound book, a mission and a name. Assumes nothing.
+use mathlib.Core.Path.{refl, sym, _∙_}
 use borrow.Author.Needs.{needs}
-use borrow.Author.Tests.{not-true, not-false}
-use lib.Dec.{ltb}
 use Rattle.letters.specs.Names.{isName}
-use Rattle.model.specs.Lists.{lastMission}
-use Rattle.model.specs.Run.{run}
-use Rattle.model.proofs.Refusals.{mission-over, mission-under}
-use Rattle.rows.specs.Table.{lengthOk}
+use Rattle.model.specs.Call.Call.{rank}
+use Rattle.answers.specs.declared.cases.Refusal.the-variants.{Name}
+use Rattle.admitting.proofs.Admitting.{admitted, refused-first}
 use Rattle.calls.proofs.ranks.rank.Statement.{statement}
 use Rattle.calls.proofs.ranks.rank.Tie as tie
-
-length-fine : (c : tie.Else1) → lengthOk (c .before .before .before .before .args .t .now) ≡ true
-length-fine c = sym (c .before .length-ok .ensures) ∙ not-false _ (c .if1 .left)
-
-mission-fine : (c : tie.Else2) → ltb lastMission (c .before .before .before .before .before .args .m) ≡ false
-mission-fine c = mission-under _ (c .if2 .left)
-
-name-fine : (c : tie.Else3) → isName (c .before .before .before .before .before .before .before .args .name .now) ≡ true
-name-fine c = sym (c .before .is-name .ensures) ∙ not-false _ (c .if3 .left)
-
-length-ok-requires : tie.Need-length-ok-requires
-length-ok-requires c κs = search needs
-
-returns : tie.Need-returns
-unfolding run
-returns c = rw (sym (c .before .length-ok .ensures) ∙ not-true _ (c .if1 .taken))
-
-returns-2 : tie.Need-returns-2
-unfolding run
-returns-2 c = rw (length-fine (c .before), mission-over _ (c .if2 .taken))
 
 is-name-requires : tie.Need-is-name-requires
 is-name-requires c κs = search needs
 
-returns-3 : tie.Need-returns-3
-unfolding run
-returns-3 c =
-    let m = c .before .before in
-    rw (length-fine (m .before), mission-fine m, sym (c .before .is-name .ensures) ∙ not-true _ (c .if3 .taken))
+admit-requires : tie.Need-admit-requires
+admit-requires c κs = search needs
 
-sound-requires : tie.Need-sound-requires
-sound-requires c κs = search needs
-
-returns-4 : tie.Need-returns-4
-unfolding run
-returns-4 c =
-    let named = c .before .before in
-    let m = named .before .before in
-    rw (length-fine (m .before), mission-fine m, name-fine named, sym (c .before .sound .ensures) ∙ not-true _ (c .if4 .taken))
+enum-told : tie.Need-enum-told
+enum-told c = search needs
 
 rank-in-list-requires : tie.Need-rank-in-list-requires
 rank-in-list-requires c κs =
-    let named = c .before .before in
-    (sym (c .before .sound .ensures) ∙ not-false _ (c .if4 .left), named .before .before .if2 .left, name-fine named)
+    let fine = admitted _ _ _ Name (c .enum-told .given .1) (c .before .before .admit .ensures) in
+    (fine .sound, fine .mission, sym (c .before .before .before .is-name .ensures) ∙ fine .fine)
 
-returns-5 : tie.Need-returns-5
-returns-5 c = c .rank-in-list .ensures
+enum-known-r : tie.Need-enum-known-r
+enum-known-r c = search needs
+
+returns : tie.Need-returns
+returns c = search needs
+
+returns-2 : tie.Need-returns-2
+returns-2 c =
+    let tested = c .before .before .before in
+    let args = tested .before .before .before .before .args in
+    rw
+    (refused-first (args .t .now) (args .m) (isName (args .name .now)) Name (rank (args .m) (args .name .now)) 4 refl (c .before .r .given .1)
+    (rw (tested .before .is-name .ensures) at (tested .admit .ensures)))
 
 pub rank-spec : {M : Type 1} → statement M
 rank-spec =
     tie.close
     (tie.spec
-    length-ok-requires
-    returns
-    returns-2
     is-name-requires
-    returns-3
-    sound-requires
-    returns-4
+    admit-requires
+    enum-told
     rank-in-list-requires
-    returns-5)
+    enum-known-r
+    returns
+    returns-2)

@@ -16,8 +16,8 @@ use Rattle.changing.proofs.Naming.{end-fits, end-words, next-named, pat
 use Rattle.letters.proofs.letter_of.Reads as letter-of
 use Rattle.growing.proofs.mark_of.Reads as mark-of
 use Rattle.growing.proofs.targets_of.Reads as targets-of
+use Rattle.growing.proofs.end_mark.Reads as end-mark
 use Rattle.growing.proofs.make.Reads as make
-use Rattle.changing.proofs.paths.end_mark.Reads as end-mark
 use Rattle.changing.proofs.paths.path.Reads as path
 use Rattle.changing.proofs.paths.path.Kinds as kinds
 use Rattle.changing.proofs.paths.+path.Lts-path as lts

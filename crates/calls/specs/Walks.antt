@@ -1,20 +1,15 @@
--- What a call finds in a table, and what ask and next say of any table. Assumes nothing.
+-- What ask and next say of any table. Assumes nothing.
 use Prim.Native.Nat.{ℕ}
 use mathlib.Core.List.{List, []}
 use Rattle.letters.specs.Letters.{letters}
 use Rattle.letters.specs.Words.{wordOf}
 use Rattle.letters.specs.LetterSet.{flag, sumOf, countOf}
-use Rattle.model.specs.Call.{Book, Outcome}
+use Rattle.model.specs.Call.{Outcome}
 use Rattle.model.specs.Rules.{answers, askRule, nextRule}
 use Rattle.model.specs.Run.{ruled}
-use Rattle.rows.specs.Table.{Table, lengthOk, room, start}
+use Rattle.rows.specs.Table.{Table, start}
 use Rattle.rows.specs.Walk.{accepts, follows}
-use Rattle.rows.specs.Words.{lists}
-use Rattle.rows.specs.Rules.{sound}
-
--- what a call finds in a table
-abbrev pub bookOf : Table → Book
-bookOf t = record { lengthOk = lengthOk t; sound = sound t; room = room t; lists = lists t }
+use Rattle.admitting.specs.Books.{bookOf}
 
 -- "ask and next work on any numbers": the refusals are the model's, and the walk answers.
 -- "ask says 1 exactly when the walk ends on a row with mark 2."

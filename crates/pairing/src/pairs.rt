@@ -1,0 +1,82 @@
+// The row for two rows' words combined.
+use super::choices::at_once;
+use super::choices::chosen;
+use super::settled::entry;
+use super::settled::keep;
+use growing::Made;
+use growing::end_mark;
+use growing::make;
+use letters::LETTERS;
+use rows::MOST_ROWS;
+use rows::mark;
+use rows::target;
+ghost use mathlib.Core.Path.{_≡_};
+ghost use Rattle.model.specs.Rules.{combined};
+ghost use Rattle.rows.specs.Table.{rowCount};
+ghost use Rattle.rows.specs.Words.{words};
+ghost use Rattle.rows.specs.Tidy.{Used};
+ghost use Rattle.growing.specs.Growing.{Makes};
+ghost use Rattle.pairing.specs.Pairs.{pairMark, Pair, Settled, Ready, Combines};
+
+// The mark of the row for the pair: a name may end there if the operation chooses the empty word.
+fn pair_mark(t: &[u16], op: u32, p: usize, q: usize) -> u16
+    requires { ⌜ Used (now t) p × Used (now t) q ⌝ }
+    ensures { λ k. ⌜ k ≡ pairMark (now (t .entry)) op p q ⌝ }
+{
+    end_mark(chosen(op, mark(t, p) == 2, mark(t, q) == 2))
+}
+
+// Makes the row of the pair, whose targets are there, and keeps it.
+fn settle_pair(
+    t: &mut [u16],
+    seen: &mut [[u16; MOST_ROWS]],
+    op: u32,
+    p: u16,
+    q: u16,
+    targets: [u16; LETTERS],
+) -> Made
+    requires { ⌜ Ready (now t) (now seen) op p q targets ⌝ }
+    ensures { λ made. ⌜ Combines 1 (now (t .entry)) (now (t .exit)) (now (seen .exit)) op p q made ⌝ }
+{
+    let mark = pair_mark(t, op, p as usize, q as usize);
+    let Made::Row(r) = make(t, mark, targets) else {
+        return Made::Full;
+    };
+    keep(seen, p, q, r);
+    Made::Row(r)
+}
+
+// The greater height of the two falls, as every target is lower than its row.
+fn pair(t: &mut [u16], seen: &mut [[u16; MOST_ROWS]], op: u32, p: u16, q: u16) -> Made
+    requires { ⌜ Pair (now t) p q × Settled op (now t) (now seen) ⌝ }
+    ensures { λ made. ⌜ Combines (rowCount (now (t .entry))) (now (t .entry)) (now (t .exit)) (now (seen .exit)) op p q made ⌝ }
+{
+    if p == q || p == 0 || q == 0 {
+        return Made::Row(at_once(op, p, q));
+    }
+    let known = entry(seen, p, q);
+    if known != 0 {
+        return Made::Row(known - 1);
+    }
+    let mut targets = [0u16; LETTERS];
+    let mut x = 0;
+    while x < LETTERS {
+        let n = target(t, p as usize, x);
+        let k = target(t, q as usize, x);
+        let Made::Row(r) = pair(t, seen, op, n, k) else {
+            return Made::Full;
+        };
+        targets[x] = r;
+        x += 1;
+    }
+    settle_pair(t, seen, op, p, q, targets)
+}
+
+// No pair is settled at first.
+pub fn combine_rows(t: &mut [u16], op: u32, p: u16, q: u16) -> Made
+    requires { ⌜ Pair (now t) p q ⌝ }
+    ensures { λ made. ⌜ Makes (rowCount (now (t .entry))) (now (t .entry)) (now (t .exit)) (combined op (words (now (t .entry)) p) (words (now (t .entry)) q)) made ⌝ }
+{
+    let mut seen = [[0u16; MOST_ROWS]; MOST_ROWS];
+    pair(t, &mut seen, op, p, q)
+}
