@@ -1,0 +1,2 @@
+-- The one statement over all calls. Assumes nothing.
+pub mod AnyCalls

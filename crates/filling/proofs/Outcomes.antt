@@ -1,0 +1,239 @@
+-- What load and combine come to on a sound book, by the model: refused 8 where the receiving list has names, and else done or refused 11 as the
+-- lists after the change fit. A value of 0 means no names, and then the table is the same. Assumes nothing.
+use Prim.Native.Nat.{ℕ, _≤_, _<_}
+use native.Mathlib.Omega.{arith}
+use mathlib.Core.Path.{_≡_, refl, sym, _∙_, ap}
+use mathlib.Core.Bool.{Bool, true, false, cond, not, _||_, and-true}
+use mathlib.Core.List.{List, [], _∷_, _++_}
+use lib.Dec.{ltb}
+use lib.ListN.{length, drop, length-map}
+use borrow.Author.Tests.{ltb-true, ltb-false, lt-ltb, le-ltb}
+use Rattle.letters.specs.Each.{Each}
+use Rattle.letters.specs.LetterSet.{flag}
+use Rattle.letters.specs.Lists.{longestList, linesOf, namesOf, isList}
+use Rattle.letters.proofs.Words.{name-parts}
+use Rattle.letters.proofs.Lines.{lines-few, names-each, list-parts}
+use Rattle.sets.specs.Sets.{Words, member}
+use Rattle.sets.specs.Residuals.{need}
+use Rattle.sets.proofs.Sets.{member-each}
+use Rattle.model.specs.Lists.{lastMission, missions, listOf, replace, hasNames}
+use Rattle.model.specs.Call.{Call, Book}
+use Rattle.model.specs.Call.Call.{load, combine}
+use Rattle.model.specs.Refusals.{given}
+use Rattle.model.specs.Rules.{leaves, combined}
+use Rattle.model.specs.Run.{rule, refused, ruled, run}
+use Rattle.model.proofs.Refusals.{mission-under}
+use Rattle.model.proofs.Combined.{member-combined, chosen-none}
+use Rattle.rows.specs.Table.{Table, rowCount, lengthOk, room, start}
+use Rattle.rows.specs.Words.{words, lists}
+use Rattle.rows.specs.Rules.{sound}
+use Rattle.rows.specs.Tidy.{Tidy}
+use Rattle.rows.specs.Reach.{swept}
+use Rattle.rows.proofs.Rules.{sound-facts, sound-length}
+use Rattle.rows.proofs.Facts.{used-row, named-inside}
+use Rattle.rows.proofs.Books.{list-names, no-empty, row-names, start-named}
+use Rattle.growing.specs.Growing.{MadeRow, MadeFull}
+use Rattle.settling.specs.Settled.{fits, Startable, Settles}
+use Rattle.answers.specs.declared.cases.Refusal.the-variants.{NotEmpty, NoRoom}
+use Rattle.answers.specs.declared.cases.Answer.the-variants as answer
+use Rattle.admitting.specs.Books.{bookOf}
+use Rattle.admitting.specs.Admission.{firstTests}
+use Rattle.changing.specs.Promises.{settledAnswer, Changes}
+use Rattle.changing.proofs.Changes.{refused-changes, no-room, settled-changes}
+use Rattle.filling.specs.Filling.{Loadable, isOperation, highest, Combinable}
+use Rattle.filling.proofs.Filling.{no-names, full-changed, row-startable, row-changed, row-same}
+
+run-ruled : (b : Book) (call : Call) → run b call ≡ ruled b (rule b call)
+unfolding run
+run-ruled b call = refl
+
+none-or-names : (l : Words) → flag (hasNames l) ≡ 0 → l ≡ []
+none-or-names [] e = refl
+none-or-names (w ∷ l) e = absurd (omega arith)
+
+none-or-some : (l : Words) → length l ≡ 0 → l ≡ []
+none-or-some [] e = refl
+none-or-some (w ∷ l) e = absurd (omega arith)
+
+-- ---- a call that fills the empty list of mission m with the names l, and then answers the value v
+
+pub record Fills (t : Table) (m : ℕ) (call : Call) (l : Words) (v : ℕ) : Type 0 where
+  pub sound : sound t ≡ true
+  pub mission : m < missions
+  pub empty : start t m ≡ 0
+  pub names : member [] l ≡ false
+  pub nothing : v ≡ 0 → l ≡ []
+  pub says : (done : Bool) → done ≡ fits t m l → run (bookOf t) call ≡ cond done (leaves (replace (lists t) m l) v) (refused 11 (bookOf t))
+
+module _ {t : Table} {m : ℕ} {call : Call} {l : Words} {v : ℕ} (fills : Fills t m call l v) where
+  pub filled-full : (u after : Table) (most : ℕ) → MadeFull most t u l → after ≡ swept u → Changes t after call (answer.Refused NoRoom)
+  filled-full u after most full e =
+      let c = full-changed t (fills .sound) m (fills .mission) (fills .empty) l u after most full e in
+      settled-changes t after call m l v (λ _. c .refused refl) false c (fills .says false (c .says))
+
+  module _ (u : Table) (most r : ℕ) (made : MadeRow most t u l r) where
+    pub filled-startable : Startable u r
+    filled-startable = row-startable t (fills .sound) m (fills .mission) (fills .empty) l u most r made (fills .names)
+
+    pub filled-settled : (after : Table) (done : Bool) → Settles u after m r done → Changes t after call (settledAnswer done v)
+    filled-settled after done settles =
+        let c = row-changed t (fills .sound) m (fills .mission) (fills .empty) l u most r made (fills .names) after done settles in
+        let same = row-same t (fills .sound) m (fills .mission) (fills .empty) l u most r made (fills .names) after done settles in
+        settled-changes t after call m l v (λ none. same (fills .nothing none)) done c (fills .says done (c .says))
+
+-- a start, so there are names
+has-names : (t : Table) → sound t ≡ true → (m : ℕ) → m < missions → 0 < start t m → hasNames (listOf (lists t) m) ≡ true
+has-names t s m h some =
+    let tidy = sound-facts t s .tidy in
+    let named = start-named t tidy m h in
+    rw (list-names t m h, ← (row-names t tidy (start t m) named)) (used-row (named some))
+
+-- ---- load
+
+-- "The empty word is no name", so it is not among the names of a list
+list-no-empty : (list : List ℕ) → isList list ≡ true → member [] (namesOf list) ≡ false
+list-no-empty list e = go (member [] (namesOf list)) refl
+  where
+    some : Each (λ w. 0 < length w) (namesOf list)
+    some = names-each (λ w. 0 < length w) (λ bytes h. rw length-map (name-parts bytes h .0)) (linesOf list) (list-parts list e .2)
+
+    go : (b : Bool) → member [] (namesOf list) ≡ b → b ≡ false
+    go true m = absurd (omega (arith, member-each (λ w. 0 < length w) (namesOf list) some [] m))
+    go false m = refl
+
+pub list-few : (list : List ℕ) → isList list ≡ true → length (namesOf list) ≤ longestList
+list-few list e = rw length-map (omega (arith, list-parts list e .0, lines-few list))
+
+module _ (t : Table) (m : ℕ) (list : List ℕ) (fine : Loadable t m list) where
+  pub load-not-empty : 0 < start t m → Changes t t (load m list) (answer.Refused NotEmpty)
+  load-not-empty some =
+      let full = has-names t (fine .sound) m (fine .mission) some in
+      refused-changes t (load m list) NotEmpty
+      (run-ruled (bookOf t) (load m list)
+      ∙ rw (sound-length t (fine .sound), mission-under m (fine .mission), fine .listed, fine .sound, full))
+
+  pub load-fills : start t m ≡ 0 → Fills t m (load m list) (namesOf list) (length (namesOf list))
+  load-fills empty =
+      record {
+        sound = fine .sound;
+        mission = fine .mission;
+        empty = empty;
+        names = list-no-empty list (fine .listed);
+        nothing = none-or-some (namesOf list);
+        says = λ done e. run-ruled (bookOf t) (load m list) ∙ go done (no-room t m (namesOf list) ∙ rw (← e));
+      }
+    where
+      none : listOf (lists t) m ≡ []
+      none = no-names t (fine .sound) m (fine .mission) empty
+
+      go : (done : Bool) → ltb (room t) (need (replace (lists t) m (namesOf list))) ≡ not done
+          → ruled (bookOf t) (rule (bookOf t) (load m list))
+          ≡ cond done (leaves (replace (lists t) m (namesOf list)) (length (namesOf list))) (refused 11 (bookOf t))
+      go true d = rw (sound-length t (fine .sound), mission-under m (fine .mission), fine .listed, fine .sound, none, d)
+      go false d = rw (sound-length t (fine .sound), mission-under m (fine .mission), fine .listed, fine .sound, none, d)
+
+-- ---- combine
+
+-- "a mission number over 15": one of three is, if the greatest is
+over-any : (a b c : ℕ) → ltb lastMission (highest a b c) ≡ (ltb lastMission a || ltb lastMission b || ltb lastMission c)
+over-any a b c = go (ltb lastMission a) refl (ltb lastMission b) refl (ltb lastMission c) refl
+  where
+    go : (x : Bool) → ltb lastMission a ≡ x → (y : Bool) → ltb lastMission b ≡ y → (z : Bool) → ltb lastMission c ≡ z
+        → ltb lastMission (highest a b c) ≡ (x || y || z)
+    go true d y e z f = lt-ltb lastMission (highest a b c) (omega (arith, ltb-true lastMission a d))
+    go false d true e z f = lt-ltb lastMission (highest a b c) (omega (arith, ltb-true lastMission b e))
+    go false d false e true f = lt-ltb lastMission (highest a b c) (omega (arith, ltb-true lastMission c f))
+    go false d false e false f =
+        le-ltb lastMission (highest a b c) (omega (arith, ltb-false lastMission a d, ltb-false lastMission b e, ltb-false lastMission c f))
+
+-- the first refusals of combine are the first tests of a call
+pub combine-begins : (t : Table) (op a b c : ℕ) → let refusals = rule (bookOf t) (combine op a b c) .refusals in
+    given refusals ≡ given (firstTests (bookOf t) (highest a b c) (isOperation op) 3 ++ drop 6 refusals)
+combine-begins t op a b c = rw (over-any a b c) (go (ltb lastMission a) (ltb lastMission b) (ltb lastMission c))
+  where
+    rest : ℕ
+    rest = given (drop 4 (rule (bookOf t) (combine op a b c) .refusals))
+
+    go : (x y z : Bool) → cond (not (lengthOk t)) 1 (cond x 2 (cond y 2 (cond z 2 rest))) ≡ cond (not (lengthOk t)) 1 (cond (x || y || z) 2 rest)
+    go true y z = refl
+    go false true z = refl
+    go false false true = refl
+    go false false false = refl
+
+module _ (t : Table) (op a b c : ℕ) (fine : Combinable t op a b c) where
+  pub first : a < missions
+  first = omega (arith, fine .missions)
+
+  pub second : b < missions
+  second = omega (arith, fine .missions)
+
+  pub third : c < missions
+  third = omega (arith, fine .missions)
+
+  pub combine-not-empty : 0 < start t c → Changes t t (combine op a b c) (answer.Refused NotEmpty)
+  combine-not-empty some =
+      let full = has-names t (fine .sound) c third some in
+      refused-changes t (combine op a b c) NotEmpty
+      (run-ruled (bookOf t) (combine op a b c)
+      ∙ rw (sound-length t (fine .sound), mission-under a first, mission-under b second, mission-under c third, fine .operation, fine .sound, full))
+
+  abbrev result : Words
+  result = combined op (words t (start t a)) (words t (start t b))
+
+  pub combine-fills : start t c ≡ 0 → Fills t c (combine op a b c) result (flag (hasNames result))
+  combine-fills empty =
+      record {
+        sound = fine .sound;
+        mission = third;
+        empty = empty;
+        names = member-combined op [] _ _ ∙ rw (no-empty t tidy a first, no-empty t tidy b second) (chosen-none op);
+        nothing = none-or-names result;
+        says = λ done e. run-ruled (bookOf t) (combine op a b c) ∙ go done (no-room t c result ∙ rw (← e));
+      }
+    where
+      tidy : Tidy t
+      tidy = sound-facts t (fine .sound) .tidy
+
+      none : listOf (lists t) c ≡ []
+      none = no-names t (fine .sound) c third empty
+
+      go : (done : Bool) → ltb (room t) (need (replace (lists t) c result)) ≡ not done
+          → ruled (bookOf t) (rule (bookOf t) (combine op a b c))
+          ≡ cond done (leaves (replace (lists t) c result) (flag (hasNames result))) (refused 11 (bookOf t))
+      go true d =
+          rw (
+            sound-length t (fine .sound),
+            mission-under a first,
+            mission-under b second,
+            mission-under c third,
+            fine .operation,
+            fine .sound,
+            none,
+            list-names t a first,
+            list-names t b second,
+            d,
+          )
+      go false d =
+          rw (
+            sound-length t (fine .sound),
+            mission-under a first,
+            mission-under b second,
+            mission-under c third,
+            fine .operation,
+            fine .sound,
+            none,
+            list-names t a first,
+            list-names t b second,
+            d,
+          )
+
+-- "combine 1 if the result has a name, else 0": it has one if it has a row
+pub combined-value : {t u : Table} {l : Words} {r : ℕ} (most : ℕ) → MadeRow most t u l r → flag (ltb 0 r) ≡ flag (hasNames l)
+combined-value {u = u} {r = r} most made =
+    let tidy = made .grows .tidy in
+    rw (
+      ← (made .has),
+      ← (row-names u tidy r (made .named)),
+      lt-ltb r (rowCount u) (named-inside u tidy r (made .named)),
+      and-true,
+    )

@@ -1,0 +1,84 @@
+-- `fill_list` meets its promise: the row that was built has the names of the list, and settling it is the model's change; where no row is free, there
+-- is no room. Assumes nothing.
+use native.Mathlib.Omega.{arith}
+use borrow.Author.Needs.{needs}
+use Rattle.rows.proofs.Rules.{sound-facts}
+use Rattle.filling.proofs.Outcomes.{list-few, load-fills, filled-full, filled-startable, filled-settled}
+use Rattle.filling.proofs.loads.fill_list.Statement.{statement}
+use Rattle.filling.proofs.loads.fill_list.Tie as tie
+
+name-count-requires : tie.Need-name-count-requires
+name-count-requires c κs = search needs
+
+cast-names : tie.Need-cast-names
+cast-names c =
+    let start = c .before .before .before in
+    let few = list-few (start .args .list .now) (start .pre .0 .listed) in
+    search needs
+
+build-list-requires : tie.Need-build-list-requires
+build-list-requires c κs =
+    let (given, _) = c .before .before .before .before .pre in
+    (sound-facts _ (given .sound) .tidy, given .listed)
+
+enum-known-r : tie.Need-enum-known-r
+enum-known-r c = search needs
+
+settle-requires : tie.Need-settle-requires
+settle-requires c κs =
+    let called = c .before .before .before .before .before .before in
+    let (given, empty) = called .before .before .before .before .before .pre in
+    let made = rw (c .before .before .r .given .1) at (called .build-list .ensures) in
+    (made .grows .tidy, omega (arith, given .mission), filled-startable (load-fills _ _ _ given empty) _ _ _ made)
+
+settled-requires : tie.Need-settled-requires
+settled-requires c κs = search needs
+
+enum-told : tie.Need-enum-told
+enum-told c = search needs
+
+no-room-requires : tie.Need-no-room-requires
+no-room-requires c κs =
+    let called = c .before .before .before .before .before in
+    let full = rw (c .before .enum-told .given .1) at (called .build-list .ensures) in
+    full .grows .tidy
+
+same-length : tie.Need-same-length
+same-length c = search needs
+
+returns : tie.Need-returns
+returns c =
+    let settled = c .before .before .before in
+    let called = settled .before .before .before .before .before .before .before in
+    let (given, empty) = called .before .before .before .before .before .pre in
+    let made = rw (settled .before .before .before .r .given .1) at (called .build-list .ensures) in
+    rw (c .settled .ensures, called .before .before .name-count .ensures)
+    (filled-settled (load-fills _ _ _ given empty) _ _ _ made _ _ (settled .settle .ensures))
+
+same-length-2 : tie.Need-same-length-2
+same-length-2 c = search needs
+
+returns-2 : tie.Need-returns-2
+returns-2 c =
+    let refused = c .before .before in
+    let called = refused .before .before .before .before .before .before in
+    let (given, empty) = called .before .before .before .before .before .pre in
+    let full = rw (refused .before .before .enum-told .given .1) at (called .build-list .ensures) in
+    rw (refused .no-room .ensures .0) (filled-full (load-fills _ _ _ given empty) _ _ _ full (refused .no-room .ensures .1))
+
+pub fill-list-spec : {M : Type 1} → statement M
+fill-list-spec =
+    tie.close
+    (tie.spec
+    name-count-requires
+    cast-names
+    build-list-requires
+    enum-known-r
+    settle-requires
+    settled-requires
+    enum-told
+    no-room-requires
+    same-length
+    returns
+    same-length-2
+    returns-2)

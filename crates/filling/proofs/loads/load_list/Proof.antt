@@ -1,0 +1,34 @@
+-- `load_list` meets its promise: a start means that there are names already, and else the list is filled. Assumes nothing.
+use native.Mathlib.Omega.{arith}
+use borrow.Author.Needs.{needs}
+use Rattle.rows.proofs.Rules.{sound-length, start-inside}
+use Rattle.filling.proofs.Outcomes.{load-not-empty}
+use Rattle.filling.proofs.loads.load_list.Statement.{statement}
+use Rattle.filling.proofs.loads.load_list.Tie as tie
+
+start-requires : tie.Need-start-requires
+start-requires c κs = let given = c .before .before .before .pre in start-inside _ (sound-length _ (given .sound)) _ (given .mission)
+
+same-length : tie.Need-same-length
+same-length c = search needs
+
+returns : tie.Need-returns
+returns c =
+    let given = c .before .before .before .before .before .pre in
+    load-not-empty _ _ _ given (omega (arith, c .before .start .ensures))
+
+fill-list-requires : tie.Need-fill-list-requires
+fill-list-requires c κs =
+    let given = c .before .before .before .before .before .before .pre in
+    (given, omega (arith, c .before .before .start .ensures))
+
+same-length-2 : tie.Need-same-length-2
+same-length-2 c = search needs
+
+returns-2 : tie.Need-returns-2
+returns-2 c = c .before .before .fill-list .ensures
+
+pub load-list-spec : {M : Type 1} → statement M
+load-list-spec =
+    tie.close
+    (tie.spec start-requires same-length returns fill-list-requires same-length-2 returns-2)

@@ -1,0 +1,2 @@
+-- What the functions say that fill an empty list. Assumes nothing.
+pub mod Filling

@@ -1,0 +1,79 @@
+// "combine the lists of missions a and b into the empty list of mission c".
+use super::rooms::no_room;
+use admitting::Admission;
+use admitting::admit;
+use answers::Answer;
+use answers::Refusal;
+use changing::settled;
+use growing::Made;
+use pairing::combine_rows;
+use rows::start;
+use settling::settle;
+ghost use Prim.Native.Nat.{max};
+ghost use mathlib.Core.Path.{_≡_};
+ghost use lib.Dec.{ltb};
+ghost use Rattle.letters.specs.LetterSet.{flag};
+ghost use Rattle.model.specs.Call.Call.{combine};
+ghost use Rattle.rows.specs.Table.{start};
+ghost use Rattle.changing.specs.Promises.{Changes};
+ghost use Rattle.filling.specs.Filling.{isOperation, highest, Combinable};
+
+// "combine 1 if the result has a name, else 0".
+fn has_names(r: u16) -> u32
+    ensures { λ n. ⌜ n ≡ flag (ltb 0 r) ⌝ }
+{
+    if 0 < r { 1 } else { 0 }
+}
+
+// On a sound book, two lists into that of a mission that has none.
+fn fill_combined(t: &mut [u16], op: u32, a: usize, b: usize, c: usize) -> Answer
+    requires { ⌜ Combinable (now t) op a b c × (start (now t) c ≡ 0) ⌝ }
+    ensures { λ answer. ⌜ Changes (now (t .entry)) (now (t .exit)) (combine op a b c) answer ⌝ }
+{
+    let p = start(t, a);
+    let q = start(t, b);
+    match combine_rows(t, op, p, q) {
+        Made::Row(r) => settled(settle(t, c, r), has_names(r)),
+        Made::Full => no_room(t),
+    }
+}
+
+// On a sound book: refusal 8, and the rest.
+fn combine_lists(t: &mut [u16], op: u32, a: usize, b: usize, c: usize) -> Answer
+    requires { ⌜ Combinable (now t) op a b c ⌝ }
+    ensures { λ answer. ⌜ Changes (now (t .entry)) (now (t .exit)) (combine op a b c) answer ⌝ }
+{
+    if start(t, c) != 0 {
+        return Answer::Refused(Refusal::NotEmpty);
+    }
+    fill_combined(t, op, a, b, c)
+}
+
+// "operation not 1, 2 or 3" is refused.
+fn is_operation(op: u32) -> bool
+    ensures { λ b. ⌜ b ≡ isOperation op ⌝ }
+{
+    (1 <= op) & (op <= 3)
+}
+
+fn greater(a: u32, b: u32) -> u32
+    ensures { λ m. ⌜ m ≡ max a b ⌝ }
+{
+    if a < b { b } else { a }
+}
+
+// The greatest of three mission numbers: if it is a mission's, all are.
+fn highest(a: u32, b: u32, c: u32) -> u32
+    ensures { λ m. ⌜ m ≡ highest a b c ⌝ }
+{
+    greater(greater(a, b), c)
+}
+
+pub fn combine(t: &mut [u16], op: u32, a: u32, b: u32, c: u32) -> Answer
+    ensures { λ answer. ⌜ Changes (now (t .entry)) (now (t .exit)) (combine op a b c) answer ⌝ }
+{
+    match admit(t, highest(a, b, c), is_operation(op), Refusal::Operation) {
+        Admission::Admitted => combine_lists(t, op, a as usize, b as usize, c as usize),
+        Admission::Refused(r) => Answer::Refused(r),
+    }
+}

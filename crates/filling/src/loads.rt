@@ -1,0 +1,50 @@
+// "load a rising list of names into an empty list".
+use super::rooms::no_room;
+use admitting::Admission;
+use admitting::admit;
+use answers::Answer;
+use answers::Refusal;
+use building::build_list;
+use changing::settled;
+use growing::Made;
+use letters::is_list;
+use letters::name_count;
+use rows::start;
+use settling::settle;
+ghost use mathlib.Core.Path.{_≡_};
+ghost use Rattle.model.specs.Call.Call.{load};
+ghost use Rattle.rows.specs.Table.{start};
+ghost use Rattle.changing.specs.Promises.{Changes};
+ghost use Rattle.filling.specs.Filling.{Loadable};
+
+// On a sound book, a list for a mission that has none.
+fn fill_list(t: &mut [u16], m: usize, list: &[u8]) -> Answer
+    requires { ⌜ Loadable (now t) m (now list) × (start (now t) m ≡ 0) ⌝ }
+    ensures { λ a. ⌜ Changes (now (t .entry)) (now (t .exit)) (load m (now (list .entry))) a ⌝ }
+{
+    let names = name_count(list) as u32;
+    match build_list(t, list) {
+        Made::Row(r) => settled(settle(t, m, r), names),
+        Made::Full => no_room(t),
+    }
+}
+
+// On a sound book: refusal 8, and the rest.
+fn load_list(t: &mut [u16], m: usize, list: &[u8]) -> Answer
+    requires { ⌜ Loadable (now t) m (now list) ⌝ }
+    ensures { λ a. ⌜ Changes (now (t .entry)) (now (t .exit)) (load m (now (list .entry))) a ⌝ }
+{
+    if start(t, m) != 0 {
+        return Answer::Refused(Refusal::NotEmpty);
+    }
+    fill_list(t, m, list)
+}
+
+pub fn load(t: &mut [u16], m: u32, list: &[u8]) -> Answer
+    ensures { λ a. ⌜ Changes (now (t .entry)) (now (t .exit)) (load m (now (list .entry))) a ⌝ }
+{
+    match admit(t, m, is_list(list), Refusal::List) {
+        Admission::Admitted => load_list(t, m as usize, list),
+        Admission::Refused(r) => Answer::Refused(r),
+    }
+}
