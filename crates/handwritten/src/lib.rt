@@ -46,3 +46,77 @@ pub fn put_chain(t: &mut [u16], rows: u16, letters: u8) {
     put(t, rows, 0, 2);
     put_start(t, 0, 1);
 }
+
+// As many letters as the longest name has.
+const LONGEST: u16 = 24;
+
+// The row after i of the 24 letters: row 1 is where all end.
+fn dense_row(first: u8, i: u16) -> u16 {
+    if LONGEST <= i {
+        return 1;
+    }
+    first as u16 + i
+}
+
+// Mission m: all words of 24 letters below `letters`.
+pub fn put_dense(t: &mut [u16], m: u16, first: u8, letters: u8) {
+    let mut i = 0;
+    while i < LONGEST {
+        put_fan(
+            t,
+            dense_row(first, i),
+            LONGEST - i,
+            letters,
+            dense_row(first, i + 1),
+        );
+        i += 1;
+    }
+    put(t, 1, 0, 2);
+    put_start(t, m, first as u16);
+}
+
+// The row after i letters with an even number of 0s among them, and with an odd one, where no word has an odd number. With one letter left only 0
+// leads on from an odd number: row 2.
+fn even_row(first: u8, i: u16) -> u16 {
+    if LONGEST <= i {
+        return 1;
+    }
+    first as u16 + i * 2
+}
+
+fn odd_row(first: u8, i: u16) -> u16 {
+    if LONGEST <= i {
+        return 0;
+    }
+    if LONGEST - 1 <= i {
+        return 2;
+    }
+    first as u16 + i * 2 + 1
+}
+
+// Puts row r with arcs for the letters below `letters`: 0 to row s, the others to row n.
+fn put_turning(t: &mut [u16], r: u16, height: u16, letters: u8, s: u16, n: u16) {
+    put_fan(t, r, height, letters, n);
+    put_arc(t, r, 0, s);
+}
+
+// The rows after i letters.
+fn put_evens(t: &mut [u16], first: u8, i: u8, height: u16, letters: u8) {
+    let even = even_row(first, i as u16 + 1);
+    let odd = odd_row(first, i as u16 + 1);
+    put_turning(t, even_row(first, i as u16), height, letters, odd, even);
+    if 0 < i {
+        put_turning(t, odd_row(first, i as u16), height, letters, even, odd);
+    }
+}
+
+// Mission m: the words of 24 letters below `letters` with an even number of 0s.
+pub fn put_even(t: &mut [u16], m: u16, first: u8, letters: u8) {
+    let mut i = 0;
+    while i < LONGEST {
+        put_evens(t, first, i as u8, LONGEST - i, letters);
+        i += 1;
+    }
+    put(t, 1, 0, 2);
+    put_start(t, m, first as u16);
+}

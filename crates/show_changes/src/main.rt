@@ -2,7 +2,6 @@
 // and each refusal beside what is just not refused. It prints of each call its number, its value and whether any number of the table changed. The
 // file stdout is what it must print: it was written by another program, which keeps sixteen plain sets and counts their states.
 use showing::copy_numbers;
-use showing::put_four_names;
 use showing::show_add;
 use showing::show_add_used;
 use showing::show_ask;
@@ -182,10 +181,15 @@ fn show_add_without_a_row(t: &[u16]) {
     show_add(b"7", &mut broken, 15, b"RATE");
 }
 
+fn load_four_names(t: &mut [u16]) {
+    calls::empty(t);
+    filling::load(t, 0, b"00\n01\n10\n11\n");
+}
+
 // The same with the four names of P7 in room 3.
 fn show_remove_refusals() {
-    let mut t = [0u16; 1160];
-    put_four_names(&mut t);
+    let mut t = [7u16; 1160];
+    load_four_names(&mut t);
     show_remove_without_a_row(&t);
     show_remove(b"11", &mut t, 0, b"11");
     show_remove_used(b"0", &mut t, 1, b"11");
@@ -203,8 +207,8 @@ fn show_remove_without_a_row(t: &[u16]) {
 }
 
 fn show_clear_refusals() {
-    let mut t = [0u16; 1160];
-    put_four_names(&mut t);
+    let mut t = [7u16; 1160];
+    load_four_names(&mut t);
     show_clear_without_a_row(&t);
     show_clear_used(b"0", &mut t, 0);
 }

@@ -1,17 +1,16 @@
-// Runs 01's examples of add, remove and clear in its order, on books that the calls made, but for one, and prints of each call its number, its
+// Runs 01's examples of add, remove and clear in its order, on books that the calls made, and prints of each call its number, its
 // value and whether any number of the table changed; between them what used, ask, next and count say. The file stdout is what it must print: it
 // was written by another program, which keeps sixteen plain sets and counts their states.
-use showing::put_four_names;
 use showing::show_add;
 use showing::show_add_used;
 use showing::show_ask;
 use showing::show_clear_used;
 use showing::show_count;
+use showing::show_load_used;
 use showing::show_missions;
 use showing::show_next;
 use showing::show_remove;
 use showing::show_remove_used;
-use showing::show_used;
 
 fn show_slew(t: &mut [u16]) {
     show_add_used(b"P2", t, 0, b"SLEW");
@@ -79,9 +78,9 @@ fn show_three_of_four() {
 }
 
 fn show_remove_refused() {
-    let mut t = [0u16; 1160];
-    put_four_names(&mut t);
-    show_used(b"P7 in room 3", &t);
+    let mut t = [7u16; 1160];
+    calls::empty(&mut t);
+    show_load_used(b"P7 in room 3", &mut t, 0, b"00\n01\n10\n11\n");
     show_remove_used(b"P7 in room 3", &mut t, 0, b"11");
     show_ask(b"P7 in room 3", &t, 0, b"00");
     show_ask(b"P7 in room 3", &t, 0, b"01");

@@ -52,6 +52,32 @@ pub fn show_clear(text: &[u8], t: &mut [u16], m: u32) {
     show_change(t, &copy, reply);
 }
 
+// The list by its bytes: each name stands on a line of its own.
+pub fn show_load(text: &[u8], t: &mut [u16], m: u32, list: &[u8]) {
+    let mut copy = [0u16; MOST];
+    copy_numbers(t, &mut copy);
+    let reply = answer_reply(filling::load(t, m, list));
+    say(text);
+    say(b" load");
+    say_number(m as u64);
+    say_number(list.len() as u64);
+    say(b" bytes");
+    show_change(t, &copy, reply);
+}
+
+pub fn show_combine(text: &[u8], t: &mut [u16], op: u32, a: u32, b: u32, c: u32) {
+    let mut copy = [0u16; MOST];
+    copy_numbers(t, &mut copy);
+    let reply = answer_reply(filling::combine(t, op, a, b, c));
+    say(text);
+    say(b" combine");
+    say_number(op as u64);
+    say_number(a as u64);
+    say_number(b as u64);
+    say_number(c as u64);
+    show_change(t, &copy, reply);
+}
+
 pub fn show_add_used(text: &[u8], t: &mut [u16], m: u32, name: &[u8]) {
     show_add(text, t, m, name);
     show_used(text, t);
@@ -64,5 +90,15 @@ pub fn show_remove_used(text: &[u8], t: &mut [u16], m: u32, name: &[u8]) {
 
 pub fn show_clear_used(text: &[u8], t: &mut [u16], m: u32) {
     show_clear(text, t, m);
+    show_used(text, t);
+}
+
+pub fn show_load_used(text: &[u8], t: &mut [u16], m: u32, list: &[u8]) {
+    show_load(text, t, m, list);
+    show_used(text, t);
+}
+
+pub fn show_combine_used(text: &[u8], t: &mut [u16], op: u32, a: u32, b: u32, c: u32) {
+    show_combine(text, t, op, a, b, c);
     show_used(text, t);
 }

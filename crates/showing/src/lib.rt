@@ -3,7 +3,6 @@
 // compared with what is stored.
 mod changes;
 mod copies;
-mod fours;
 mod reads;
 mod texts;
 
@@ -11,10 +10,13 @@ pub use changes::show_add;
 pub use changes::show_add_used;
 pub use changes::show_clear;
 pub use changes::show_clear_used;
+pub use changes::show_combine;
+pub use changes::show_combine_used;
+pub use changes::show_load;
+pub use changes::show_load_used;
 pub use changes::show_remove;
 pub use changes::show_remove_used;
 pub use copies::copy_numbers;
-pub use fours::put_four_names;
 pub use reads::show_ask;
 pub use reads::show_count;
 pub use reads::show_missions;
