@@ -6,7 +6,6 @@ use mathlib.Core.Path.{_≡_, refl, sym, _∙_, ap, ap₂}
 use mathlib.Core.Bool.{true}
 use mathlib.Core.List.{List, [], _∷_}
 use lib.ListN.{length, length-replicate}
-use Rattle.sets.specs.Sets.{Words}
 use Rattle.model.specs.Lists.{emptyLists}
 use Rattle.model.specs.Call.{Call, Book}
 use Rattle.model.specs.Call.Call.{empty, check, ask, next, add, remove, clear, load, combine, count, rank, nth, used}

@@ -26,7 +26,7 @@ use Rattle.growing.specs.declared.makes.Made.{Made}
 use Rattle.growing.specs.Rows.{endMark, wordsOver}
 use Rattle.growing.specs.Growing.{Fitting, MadeRow, MadeFull, Makes, Targets}
 use Rattle.growing.proofs.Growing.{within-after, grows-self}
-use Rattle.growing.proofs.Targets.{targets-none, targets-more, targets-full, targets-fit, targets-made}
+use Rattle.growing.proofs.Targets.{end-marked, targets-none, targets-more, targets-full, targets-fit, targets-made}
 use Rattle.building.specs.Groups.{namesFrom, Listed, Begins, opening, group, Behind, firstPlace, shares}
 use Rattle.building.specs.Building.{BuiltGroup}
 use Rattle.building.proofs.Grouping.{begun, Grouped, grouped-own, grouped-none, left, all-words, own-words, other-words, ends-same}
@@ -187,7 +187,7 @@ module _ {t v : Table} {list : List ℕ} {at depth place : ℕ} {ts : List ℕ} 
         omega (arith, rw (length-append (opening list at depth) w) at short))
 
     pub passed-fits : Fitting v (endMark (eqb (getD list (at + depth) 0) lineEnd)) ts
-    passed-fits = rw (← ends-there) (targets-fit (passed .made) group-plain group-short (λ x h. rw whole))
+    passed-fits = targets-fit (passed .made) group-plain group-short (λ x h. rw whole) _ (end-marked _ (eqb (getD list (at + depth) 0) lineEnd) refl)
 
     pub passed-made : (w : Table) (made : Made) → Makes 1 v w (wordsOver v (endMark (eqb (getD list (at + depth) 0) lineEnd)) ts) made
         → Makes (rowCount t) t w (group list at depth) made

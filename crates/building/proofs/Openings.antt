@@ -6,12 +6,12 @@ use native.Mathlib.Decide.{ℕ-discrete}
 use native.Mathlib.Numerals.{add-one}
 use mathlib.Core.Path.{_≡_, refl, sym, ap, _∙_}
 use mathlib.Core.Bool.{true, false, false≢true, and-eq-true-iff}
-use mathlib.Core.List.{List, [], _∷_, _++_, map, map-append}
+use mathlib.Core.List.{List, [], _∷_, _++_, map-append}
 use lib.Dec.{ltb}
 use lib.ListN.{length, take, drop, getD, length-map, length-append, length-drop, take-append-drop, drop-of-length-le, List·getD-map}
 use lib.Seq.{length-take-le, take-suc, drop-cons, getD-take, getD-drop, take-take, take-at, ext-getD}
 use borrow.Author.Tests.{ltb-true, eqb-true, lt-ltb, eq-eqb}
-use Rattle.letters.specs.Each.{Each, every}
+use Rattle.letters.specs.Each.{Each}
 use Rattle.letters.specs.Letters.{letters, lineEnd, letter}
 use Rattle.letters.specs.Words.{Word, wordOf, Spelled}
 use Rattle.letters.specs.Names.{longest, isName}
@@ -92,7 +92,7 @@ module _ (list : List ℕ) (at d : ℕ) where
   opening-more h = rw (add-one, take-suc (drop at list) d 0 (omega (arith, length-drop at list)), map-append, getD-drop)
 
   -- the name at the place begins with them, if it is so long; and where it begins with so many letters, these are they
-  pub name-opens : d ≤ length (nameAt list at) → wordOf (nameAt list at) ≡ opening list at d ++ wordOf (drop d (nameAt list at))
+  name-opens : d ≤ length (nameAt list at) → wordOf (nameAt list at) ≡ opening list at d ++ wordOf (drop d (nameAt list at))
   name-opens h =
       let name = nameAt list at in
       let front : take d name ≡ take d (drop at list) =

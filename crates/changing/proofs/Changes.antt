@@ -1,7 +1,7 @@
 -- What every change comes to. Where nothing changes, the table as it was meets the promise. A change that was settled is the model's: it is
 -- refused for room exactly where the lists after it do not fit. Assumes nothing.
 use Prim.Native.Nat.{ℕ}
-use mathlib.Core.Path.{_≡_, refl, sym}
+use mathlib.Core.Path.{_≡_, refl, sym, _∙_}
 use mathlib.Core.Bool.{Bool, true, false, cond, not}
 use mathlib.Core.List.{List}
 use lib.Dec.{ltb}
@@ -10,9 +10,9 @@ use borrow.Author.Tests.{le-leb}
 use Rattle.sets.specs.Sets.{Words}
 use Rattle.sets.specs.Residuals.{need}
 use Rattle.model.specs.Lists.{listOf, replace}
-use Rattle.model.specs.Call.{Call}
+use Rattle.model.specs.Call.{Call, Book, Outcome}
 use Rattle.model.specs.Rules.{leaves}
-use Rattle.model.specs.Run.{refused, run}
+use Rattle.model.specs.Run.{refused, outcome, run}
 use Rattle.model.proofs.Lists.{replace-itself}
 use Rattle.model.proofs.Refusals.{over-most}
 use Rattle.rows.specs.Table.{Table, room, usedRows}
@@ -45,9 +45,15 @@ same-changes t call e = unchanged t call (answer.Done 0) (rw e) (rw e)
 pub same-fits : (t : Table) → sound t ≡ true → (m : ℕ) → fits t m (listOf (lists t) m) ≡ true
 same-fits t s m = rw (replace-itself, ← (used-need t s)) (le-leb (usedRows t) (room t) (sound-facts t s .fits))
 
--- more states than room, where the lists do not fit
-pub no-room : (t : Table) (m : ℕ) (l : Words) → ltb (room t) (need (replace (lists t) m l)) ≡ not (fits t m l)
-no-room t m l = over-most (need (replace (lists t) m l)) (room t)
+-- 11 is the last of the refusals, and applies where the lists do not fit
+last-refusal : (b : Book) (answered : Outcome) (over done : Bool) → over ≡ not done
+    → outcome b (cond over 11 0) answered ≡ cond done answered (refused 11 b)
+last-refusal b answered over true e = rw e
+last-refusal b answered over false e = rw e
+
+pub fits-or-not : (t : Table) (m : ℕ) (l : Words) (b : Book) (answered : Outcome) (done : Bool) → done ≡ fits t m l
+    → outcome b (cond (ltb (room t) (need (replace (lists t) m l))) 11 0) answered ≡ cond done answered (refused 11 b)
+fits-or-not t m l b answered done e = last-refusal b answered _ done (over-most (need (replace (lists t) m l)) (room t) ∙ rw (← e))
 
 -- done, with these lists; where the value is 0, the table must be the same
 pub done-changes : (t after : Table) (call : Call) (ls : List Words) (value : ℕ) → (value ≡ 0 → after ≡ t) → run (bookOf t) call ≡ leaves ls value

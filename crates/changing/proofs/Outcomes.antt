@@ -5,7 +5,6 @@ use native.Mathlib.Omega.{arith}
 use mathlib.Core.Path.{_≡_, refl, sym, _∙_}
 use mathlib.Core.Bool.{Bool, true, false, cond, not, Bool·beq, false≢true}
 use mathlib.Core.List.{List, []}
-use lib.Dec.{ltb}
 use lib.ListN.{length}
 use Rattle.letters.specs.LetterSet.{flag}
 use Rattle.letters.specs.Words.{Word, Spelled, wordOf, same as same-word}
@@ -13,7 +12,6 @@ use Rattle.letters.specs.Names.{isName}
 use Rattle.letters.proofs.Words.{word-rest, name-parts}
 use Rattle.letters.proofs.Order.{same-eq}
 use Rattle.sets.specs.Sets.{Words, member, Plain}
-use Rattle.sets.specs.Residuals.{need}
 use Rattle.sets.proofs.Sets.{plain-ext}
 use Rattle.model.specs.Lists.{missions, listOf, replace, hasNames}
 use Rattle.model.specs.Call.{Book}
@@ -24,7 +22,7 @@ use Rattle.model.specs.Run.{rule, refused, ruled, run}
 use Rattle.model.proofs.Lists.{replace-itself}
 use Rattle.model.proofs.Names.{member-with-name, plain-with-name, with-name-empty}
 use Rattle.model.proofs.Refusals.{mission-under}
-use Rattle.rows.specs.Table.{Table, room, start}
+use Rattle.rows.specs.Table.{Table, start}
 use Rattle.rows.specs.Words.{words, lists}
 use Rattle.rows.specs.Rules.{sound}
 use Rattle.rows.proofs.Rules.{sound-facts, sound-length}
@@ -45,7 +43,7 @@ use Rattle.admitting.specs.Books.{bookOf}
 use Rattle.admitting.specs.Admission.{firstTests, admissionNumber}
 use Rattle.admitting.proofs.Admitting.{refused-first}
 use Rattle.changing.specs.Promises.{setCall, settledAnswer, Changes}
-use Rattle.changing.proofs.Changes.{refused-changes, same-changes, same-fits, no-room, done-changes, settled-changes}
+use Rattle.changing.proofs.Changes.{refused-changes, same-changes, same-fits, fits-or-not, done-changes, settled-changes}
 
 -- "1 if the list changed, else 0": the name is as wanted, or it is not
 pub beq-same : (a b : Bool) → Bool·beq a b ≡ true → a ≡ b
@@ -85,21 +83,16 @@ module _ (t : Table) (s : sound t ≡ true) (m : ℕ) (h : m < missions) where
     abbrev wanted : Words
     wanted = withName on (wordOf name) list
 
-    set-run : (b : Bool) → member (wordOf name) list ≡ b → (done : Bool) → fits t m wanted ≡ done
+    set-run : (b : Bool) → member (wordOf name) list ≡ b → (done : Bool) → done ≡ fits t m wanted
         → run (bookOf t) (setCall on m name)
         ≡ cond done (leaves (replace (lists t) m wanted) (flag (not (Bool·beq b on)))) (refused 11 (bookOf t))
-    set-run b e done f = set-ruled t on m name ∙ go done (no-room t m wanted ∙ rw f)
-      where
-        go : (done : Bool) → ltb (room t) (need (replace (lists t) m wanted)) ≡ not done
-            → ruled (bookOf t) (setRule on (bookOf t) m name)
-            ≡ cond done (leaves (replace (lists t) m wanted) (flag (not (Bool·beq b on)))) (refused 11 (bookOf t))
-        go true d = rw (sound-length t s, mission-under m h, named, s, d, e)
-        go false d = rw (sound-length t s, mission-under m h, named, s, d)
+    set-run b e done f =
+        set-ruled t on m name ∙ rw (sound-length t s, mission-under m h, named, s, e) (fits-or-not t m wanted _ _ done f)
 
     -- the name is as wanted already
     pub set-same : member (wordOf name) list ≡ on → Changes t t (setCall on m name) (answer.Done 0)
     set-same e =
-        same-changes t (setCall on m name) (set-run on e true (rw same (same-fits t s m)) ∙ rw (same, replace-itself) (go on))
+        same-changes t (setCall on m name) (set-run on e true (sym (rw same (same-fits t s m))) ∙ rw (same, replace-itself) (go on))
       where
         spelled : Spelled (wordOf name)
         spelled = name-parts name named .2
@@ -125,7 +118,7 @@ module _ (t : Table) (s : sound t ≡ true) (m : ℕ) (h : m < missions) where
     set-settled : member (wordOf name) list ≡ not on → (after : Table) (done : Bool) → Changed t after m wanted done
         → Changes t after (setCall on m name) (settledAnswer done 1)
     set-settled e after done c =
-        settled-changes t after (setCall on m name) m wanted 1 (λ none. absurd (omega arith)) done c (set-run (not on) e done (sym (c .says)) ∙ go on done)
+        settled-changes t after (setCall on m name) m wanted 1 (λ none. absurd (omega arith)) done c (set-run (not on) e done (c .says) ∙ go on done)
       where
         go : (on done : Bool) → cond done (leaves (replace (lists t) m wanted) (flag (not (Bool·beq (not on) on)))) (refused 11 (bookOf t))
             ≡ cond done (leaves (replace (lists t) m wanted) 1) (refused 11 (bookOf t))

@@ -1,14 +1,13 @@
 -- What filling an empty list comes to. Every row that is made for the list is needed by the lists after the change, and so is every row that was
 -- in use, since the list was empty before. So when all rows are in use, the lists after need more states than there is room; and the sweep
 -- gives back the book from which the table was grown. A row that was made is settled. Assumes nothing.
-use Prim.Native.Nat.{ℕ, zero, suc, _<_}
+use Prim.Native.Nat.{ℕ, _<_}
 use native.Mathlib.Omega.{arith}
 use native.Mathlib.Decide.{ℕ-discrete}
 use mathlib.Core.Path.{_≡_, refl, sym, _∙_, ap}
 use mathlib.Core.Logic.{inl, inr}
 use mathlib.Core.Bool.{Bool, true, false, cond}
-use mathlib.Core.List.{List, [], List·Memᴰ}
-use lib.Dec.{leb}
+use mathlib.Core.List.{List, []}
 use lib.ListN.{length, getD, length-set}
 use lib.Seq.{set-getD}
 use borrow.Author.Tests.{lt-leb}
@@ -18,8 +17,8 @@ use Rattle.sets.proofs.Membership.{In}
 use Rattle.sets.proofs.States.{list-in-states, after-in-states, states-all}
 use Rattle.model.specs.Lists.{missions, listOf, replace}
 use Rattle.model.proofs.Lists.{replace-same, replace-other}
-use Rattle.rows.specs.Table.{Table, rowCount, room, start, usedRows}
-use Rattle.rows.specs.Words.{words, lists}
+use Rattle.rows.specs.Table.{Table, room, start}
+use Rattle.rows.specs.Words.{lists}
 use Rattle.rows.specs.Rules.{sound}
 use Rattle.rows.specs.Growth.{Useful}
 use Rattle.rows.specs.Reach.{swept}
@@ -29,7 +28,7 @@ use Rattle.rows.proofs.Words.{words-none, has-word}
 use Rattle.rows.proofs.Books.{lists-sixteen, list-names}
 use Rattle.minimal.proofs.Theorems.{useful-need, sound-useful}
 use Rattle.growing.specs.Growing.{MadeRow, MadeFull}
-use Rattle.settling.specs.Settled.{withStart, fits, Startable, Settles, Changed}
+use Rattle.settling.specs.Settled.{withStart, Startable, Settles, Changed}
 use Rattle.settling.proofs.Settling.{settled}
 use Rattle.settling.proofs.Swept.{swept-grown}
 

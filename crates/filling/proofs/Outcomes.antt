@@ -2,7 +2,7 @@
 -- lists after the change fit. A value of 0 means no names, and then the table is the same. Assumes nothing.
 use Prim.Native.Nat.{ℕ, _≤_, _<_}
 use native.Mathlib.Omega.{arith}
-use mathlib.Core.Path.{_≡_, refl, sym, _∙_, ap}
+use mathlib.Core.Path.{_≡_, refl, _∙_}
 use mathlib.Core.Bool.{Bool, true, false, cond, not, _||_, and-true}
 use mathlib.Core.List.{List, [], _∷_, _++_}
 use lib.Dec.{ltb}
@@ -14,7 +14,6 @@ use Rattle.letters.specs.Lists.{longestList, linesOf, namesOf, isList}
 use Rattle.letters.proofs.Words.{name-parts}
 use Rattle.letters.proofs.Lines.{lines-few, names-each, list-parts}
 use Rattle.sets.specs.Sets.{Words, member}
-use Rattle.sets.specs.Residuals.{need}
 use Rattle.sets.proofs.Sets.{member-each}
 use Rattle.model.specs.Lists.{lastMission, missions, listOf, replace, hasNames}
 use Rattle.model.specs.Call.{Call, Book}
@@ -24,7 +23,7 @@ use Rattle.model.specs.Rules.{leaves, combined}
 use Rattle.model.specs.Run.{rule, refused, ruled, run}
 use Rattle.model.proofs.Refusals.{mission-under}
 use Rattle.model.proofs.Combined.{member-combined, chosen-none}
-use Rattle.rows.specs.Table.{Table, rowCount, lengthOk, room, start}
+use Rattle.rows.specs.Table.{Table, rowCount, lengthOk, start}
 use Rattle.rows.specs.Words.{words, lists}
 use Rattle.rows.specs.Rules.{sound}
 use Rattle.rows.specs.Tidy.{Tidy}
@@ -39,7 +38,7 @@ use Rattle.answers.specs.declared.cases.Answer.the-variants as answer
 use Rattle.admitting.specs.Books.{bookOf}
 use Rattle.admitting.specs.Admission.{firstTests}
 use Rattle.changing.specs.Promises.{settledAnswer, Changes}
-use Rattle.changing.proofs.Changes.{refused-changes, no-room, settled-changes}
+use Rattle.changing.proofs.Changes.{refused-changes, fits-or-not, settled-changes}
 use Rattle.filling.specs.Filling.{Loadable, isOperation, highest, Combinable}
 use Rattle.filling.proofs.Filling.{no-names, full-changed, row-startable, row-changed, row-same}
 
@@ -120,17 +119,12 @@ module _ (t : Table) (m : ℕ) (list : List ℕ) (fine : Loadable t m list) wher
         empty = empty;
         names = list-no-empty list (fine .listed);
         nothing = none-or-some (namesOf list);
-        says = λ done e. run-ruled (bookOf t) (load m list) ∙ go done (no-room t m (namesOf list) ∙ rw (← e));
+        says = λ done e. run-ruled (bookOf t) (load m list)
+            ∙ rw (sound-length t (fine .sound), mission-under m (fine .mission), fine .listed, fine .sound, none) (fits-or-not t m (namesOf list) _ _ done e);
       }
     where
       none : listOf (lists t) m ≡ []
       none = no-names t (fine .sound) m (fine .mission) empty
-
-      go : (done : Bool) → ltb (room t) (need (replace (lists t) m (namesOf list))) ≡ not done
-          → ruled (bookOf t) (rule (bookOf t) (load m list))
-          ≡ cond done (leaves (replace (lists t) m (namesOf list)) (length (namesOf list))) (refused 11 (bookOf t))
-      go true d = rw (sound-length t (fine .sound), mission-under m (fine .mission), fine .listed, fine .sound, none, d)
-      go false d = rw (sound-length t (fine .sound), mission-under m (fine .mission), fine .listed, fine .sound, none, d)
 
 -- ---- combine
 
@@ -188,7 +182,7 @@ module _ (t : Table) (op a b c : ℕ) (fine : Combinable t op a b c) where
         empty = empty;
         names = member-combined op [] _ _ ∙ rw (no-empty t tidy a first, no-empty t tidy b second) (chosen-none op);
         nothing = none-or-names result;
-        says = λ done e. run-ruled (bookOf t) (combine op a b c) ∙ go done (no-room t c result ∙ rw (← e));
+        says = says;
       }
     where
       tidy : Tidy t
@@ -197,11 +191,11 @@ module _ (t : Table) (op a b c : ℕ) (fine : Combinable t op a b c) where
       none : listOf (lists t) c ≡ []
       none = no-names t (fine .sound) c third empty
 
-      go : (done : Bool) → ltb (room t) (need (replace (lists t) c result)) ≡ not done
-          → ruled (bookOf t) (rule (bookOf t) (combine op a b c))
-          ≡ cond done (leaves (replace (lists t) c result) (flag (hasNames result))) (refused 11 (bookOf t))
-      go true d =
-          rw (
+      says : (done : Bool) → done ≡ fits t c result
+          → run (bookOf t) (combine op a b c) ≡ cond done (leaves (replace (lists t) c result) (flag (hasNames result))) (refused 11 (bookOf t))
+      says done e =
+          run-ruled (bookOf t) (combine op a b c)
+          ∙ rw (
             sound-length t (fine .sound),
             mission-under a first,
             mission-under b second,
@@ -211,21 +205,8 @@ module _ (t : Table) (op a b c : ℕ) (fine : Combinable t op a b c) where
             none,
             list-names t a first,
             list-names t b second,
-            d,
           )
-      go false d =
-          rw (
-            sound-length t (fine .sound),
-            mission-under a first,
-            mission-under b second,
-            mission-under c third,
-            fine .operation,
-            fine .sound,
-            none,
-            list-names t a first,
-            list-names t b second,
-            d,
-          )
+          (fits-or-not t c result _ _ done e)
 
 -- "combine 1 if the result has a name, else 0": it has one if it has a row
 pub combined-value : {t u : Table} {l : Words} {r : ℕ} (most : ℕ) → MadeRow most t u l r → flag (ltb 0 r) ≡ flag (hasNames l)

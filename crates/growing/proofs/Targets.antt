@@ -20,8 +20,8 @@ use Rattle.sets.specs.Residuals.{after}
 use Rattle.sets.proofs.Sets.{member-each, members-each, plain-ext}
 use Rattle.sets.proofs.Residuals.{member-after}
 use Rattle.rows.specs.Table.{Table, rowCount, inUse, usedRows}
-use Rattle.rows.specs.Words.{fan, words}
-use Rattle.rows.specs.Tidy.{Named, Tidy}
+use Rattle.rows.specs.Words.{words}
+use Rattle.rows.specs.Tidy.{Tidy}
 use Rattle.rows.proofs.Facts.{no-row}
 use Rattle.rows.proofs.Words.{fan-empty, fan-word, fan-plain, words-plain, words-none}
 use Rattle.rows.proofs.Growth.{named-kept, words-kept}
@@ -42,6 +42,10 @@ made-on t u v l b (Row r) first second =
 made-on t u v l b Full first second =
     let grows = grows-on first (second .grows) (λ ls needed. needed) in
     record { grows = grows; full = second .full; few = omega (arith, second .full, grows .grown .long) }
+
+pub end-marked : (k : ℕ) (ends : Bool) → k ≡ endMark ends → (0 < k) × (k ≤ 2)
+end-marked k true e = (omega arith, omega arith)
+end-marked k false e = (omega arith, omega arith)
 
 -- no target yet
 pub targets-none : (t : Table) → Tidy t → (l : Words) → Targets t t l (λ x. []) (replicate letters 0)
@@ -89,11 +93,12 @@ module _ {t u : Table} {l : Words} {given : ℕ → Words} {ts : List ℕ} (so-f
     target-words : (x : ℕ) → x < letters → words u (getD ts x 0) ≡ after x l
     target-words x h = so-far .has x h ∙ all x h
 
-    pub targets-fit : Fitting u (endMark (member [] l)) ts
-    targets-fit =
+    -- with either mark
+    pub targets-fit : (k : ℕ) → (0 < k) × (k ≤ 2) → Fitting u k ts
+    targets-fit k mark =
         record {
-          some = elim (member [] l) as (λ b. 0 < endMark b) [ true ↦ omega arith | false ↦ omega arith ];
-          most = elim (member [] l) as (λ b. endMark b ≤ 2) [ true ↦ omega arith | false ↦ omega arith ];
+          some = mark .0;
+          most = mark .1;
           named = so-far .named;
           short = λ x h. rw (target-words x h)
               (members-each (λ w. length w < longest) (after x l)

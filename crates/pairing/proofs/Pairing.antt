@@ -8,7 +8,7 @@ use mathlib.Core.Path.{_≡_, refl, sym, _∙_}
 use mathlib.Core.Logic.{inl, inr}
 use mathlib.Core.Bool.{Bool, true, false, cond}
 use mathlib.Core.List.{List, []}
-use lib.Dec.{ltb}
+use lib.Dec.{eqb, ltb}
 use lib.ListN.{length, getD, set, replicate, length-set, length-replicate, getD-replicate}
 use lib.Seq.{getD-set-same, getD-set-other}
 use borrow.Author.Tests.{ltb-true, ltb-false, lt-ltb, le-ltb, eq-eqb, ne-eqb}
@@ -19,7 +19,7 @@ use Rattle.sets.specs.Sets.{Words, Plain, member}
 use Rattle.sets.specs.Residuals.{after}
 use Rattle.model.specs.Rules.{combined, chosen}
 use Rattle.model.proofs.Combined.{member-combined, plain-combined, combined-each, after-combined, combined-or-none}
-use Rattle.rows.specs.Table.{Table, mostRows, rowCount, target}
+use Rattle.rows.specs.Table.{Table, mostRows, rowCount, mark, target}
 use Rattle.rows.specs.Words.{words}
 use Rattle.rows.specs.Rules.{above}
 use Rattle.rows.specs.Tidy.{Used, Named, Tidy}
@@ -33,7 +33,7 @@ use Rattle.growing.specs.declared.makes.Made.{Made}
 use Rattle.growing.specs.declared.makes.Made.the-variants.{Row, Full}
 use Rattle.growing.specs.Growing.{MadeRow, Targets}
 use Rattle.growing.proofs.Growing.{Within, within-after, grows-self}
-use Rattle.growing.proofs.Targets.{targets-none, targets-more, targets-full, targets-fit, over-words, targets-made}
+use Rattle.growing.proofs.Targets.{end-marked, targets-none, targets-more, targets-full, targets-fit, over-words, targets-made}
 use Rattle.pairing.specs.Pairs.{orNone, atOnce, pairMark, Pair, Pairs, Square, entry, kept, Settles, Settled, Ready, Combines}
 
 -- the words of a pair
@@ -304,7 +304,7 @@ module _ {op : ℕ} {t : Table} {p q : ℕ} (rows : Both t p q) where
             first = both-kept .first;
             second = both-kept .second;
             settled = so-far .settled;
-            fitting = rw mark-chosen at (targets-fit (so-far .targets) plain short all);
+            fitting = targets-fit (so-far .targets) plain short all (pairMark u op p q) (end-marked _ (chosen op (eqb (mark u p) 2) (eqb (mark u q) 2)) refl);
             over =
                 rw mark-chosen at (over-words (so-far .targets) plain short all)
                 ∙ sym (wanted-kept (rows .tidy) grown op (λ _. rows .first) (λ _. rows .second));
