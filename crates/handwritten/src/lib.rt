@@ -1,5 +1,6 @@
 // Books written out by hand, for the programs that show what the proved functions say of them. Nothing
 // is promised of what is put; a number that would stand outside the slice is not put.
+use letters::LONGEST;
 use rows::WIDTH;
 
 // Puts number i of row r.
@@ -47,15 +48,12 @@ pub fn put_chain(t: &mut [u16], rows: u16, letters: u8) {
     put_start(t, 0, 1);
 }
 
-// As many letters as the longest name has.
-const LONGEST: u16 = 24;
-
 // The row after i of the 24 letters: row 1 is where all end.
-fn dense_row(first: u8, i: u16) -> u16 {
+fn dense_row(first: u8, i: usize) -> u16 {
     if LONGEST <= i {
         return 1;
     }
-    first as u16 + i
+    first as u16 + i as u16
 }
 
 // Mission m: all words of 24 letters below `letters`.
@@ -65,7 +63,7 @@ pub fn put_dense(t: &mut [u16], m: u16, first: u8, letters: u8) {
         put_fan(
             t,
             dense_row(first, i),
-            LONGEST - i,
+            (LONGEST - i) as u16,
             letters,
             dense_row(first, i + 1),
         );
@@ -77,21 +75,21 @@ pub fn put_dense(t: &mut [u16], m: u16, first: u8, letters: u8) {
 
 // The row after i letters with an even number of 0s among them, and with an odd one, where no word has an odd number. With one letter left only 0
 // leads on from an odd number: row 2.
-fn even_row(first: u8, i: u16) -> u16 {
+fn even_row(first: u8, i: usize) -> u16 {
     if LONGEST <= i {
         return 1;
     }
-    first as u16 + i * 2
+    first as u16 + i as u16 * 2
 }
 
-fn odd_row(first: u8, i: u16) -> u16 {
+fn odd_row(first: u8, i: usize) -> u16 {
     if LONGEST <= i {
         return 0;
     }
-    if LONGEST - 1 <= i {
+    if LONGEST <= i + 1 {
         return 2;
     }
-    first as u16 + i * 2 + 1
+    first as u16 + i as u16 * 2 + 1
 }
 
 // Puts row r with arcs for the letters below `letters`: 0 to row s, the others to row n.
@@ -102,11 +100,11 @@ fn put_turning(t: &mut [u16], r: u16, height: u16, letters: u8, s: u16, n: u16) 
 
 // The rows after i letters.
 fn put_evens(t: &mut [u16], first: u8, i: u8, height: u16, letters: u8) {
-    let even = even_row(first, i as u16 + 1);
-    let odd = odd_row(first, i as u16 + 1);
-    put_turning(t, even_row(first, i as u16), height, letters, odd, even);
+    let even = even_row(first, i as usize + 1);
+    let odd = odd_row(first, i as usize + 1);
+    put_turning(t, even_row(first, i as usize), height, letters, odd, even);
     if 0 < i {
-        put_turning(t, odd_row(first, i as u16), height, letters, even, odd);
+        put_turning(t, odd_row(first, i as usize), height, letters, even, odd);
     }
 }
 
@@ -114,7 +112,7 @@ fn put_evens(t: &mut [u16], first: u8, i: u8, height: u16, letters: u8) {
 pub fn put_even(t: &mut [u16], m: u16, first: u8, letters: u8) {
     let mut i = 0;
     while i < LONGEST {
-        put_evens(t, first, i as u8, LONGEST - i, letters);
+        put_evens(t, first, i as u8, (LONGEST - i) as u16, letters);
         i += 1;
     }
     put(t, 1, 0, 2);

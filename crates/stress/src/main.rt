@@ -1,8 +1,8 @@
-// Runs 1,200 calls of add, remove and now and then clear on an empty book of each of the rooms 1, 3, 6 and 40, drawn from a small generator: mostly
-// missions 0 to 2 and names of 1 to 4 letters that are 0 or _, so that the lists share rows, and one name in 32 of up to 24 letters. After each call
+// Runs 1,200 calls of add, remove, clear, load and combine on an empty book of each of the rooms 1, 3, 6 and 40, drawn from a small generator: names of
+// 1 to 4 letters that are 0 or _, so that the lists share rows, and one name in 32 of up to 24 letters; mostly of missions 0 to 2. After each call
 // the book must be sound, and used is printed, forty to a line; after each room how many calls changed a list, how many found nothing to change and
-// how many were refused 11, how many names the sixteen lists have, and a digest of the number, the value and used of every call. The file stdout
-// is what it must print: it was written by another program, which keeps sixteen plain sets and counts their states.
+// how many were refused, how many names the sixteen lists have, and a digest of the number, the value and used of every call. The file stdout
+// is what it must print: it was written by another program, which keeps sixteen lists of its own and counts their states.
 use answers::Answer;
 use answers::answer_reply;
 use letters::LONGEST;
@@ -14,6 +14,9 @@ ghost use Rattle.letters.specs.Names.{longest};
 
 // The calls of a room.
 const CALLS: u32 = 1200;
+
+// The names of up to three letters that are 0 or _.
+const NAMES: u32 = 14;
 
 // The prime that the digest is kept below.
 const PRIME: u64 = 2147483647;
@@ -88,11 +91,83 @@ fn draw_letters(name: &mut [u8], seed: u32) -> u32 {
     last
 }
 
-// Two calls in 64 are clear, 32 add and 30 remove.
-fn change(t: &mut [u16], n: u32, m: u32, name: &[u8]) -> Answer {
+// Puts bytes, and says where the next ones go. Nothing is put behind the end.
+fn put_bytes(list: &mut [u8], at: usize, bytes: &[u8]) -> usize {
+    let mut place = at;
+    let mut i = 0;
+    while i < bytes.len() {
+        place = put_byte(list, place, bytes[i]);
+        i += 1;
+    }
+    place
+}
+
+fn put_byte(list: &mut [u8], at: usize, b: u8) -> usize {
+    if list.len() <= at {
+        return at;
+    }
+    list[at] = b;
+    at + 1
+}
+
+// The names of up to three letters that are 0 or _, in their order: the i-th of them, and its end.
+fn put_name(list: &mut [u8], at: usize, i: u32) -> usize {
+    match i {
+        0 => put_bytes(list, at, b"0\n"),
+        1 => put_bytes(list, at, b"00\n"),
+        2 => put_bytes(list, at, b"000\n"),
+        3 => put_bytes(list, at, b"00_\n"),
+        4 => put_bytes(list, at, b"0_\n"),
+        5 => put_bytes(list, at, b"0_0\n"),
+        6 => put_bytes(list, at, b"0__\n"),
+        7 => put_bytes(list, at, b"_\n"),
+        8 => put_bytes(list, at, b"_0\n"),
+        9 => put_bytes(list, at, b"_00\n"),
+        10 => put_bytes(list, at, b"_0_\n"),
+        11 => put_bytes(list, at, b"__\n"),
+        12 => put_bytes(list, at, b"__0\n"),
+        _ => put_bytes(list, at, b"___\n"),
+    }
+}
+
+fn put_if(list: &mut [u8], at: usize, i: u32, wanted: bool) -> usize {
+    if wanted {
+        return put_name(list, at, i);
+    }
+    at
+}
+
+// Those whose bits are set.
+fn put_list(list: &mut [u8], bits: u32) -> usize {
+    let mut at = 0;
+    let mut left = bits;
+    let mut i = 0;
+    while i < NAMES {
+        at = put_if(list, at, i, left % 2 == 1);
+        left = left / 2;
+        i += 1;
+    }
+    at
+}
+
+fn load(t: &mut [u16], m: u32, bits: u32) -> Answer {
+    let mut list = [0u8; 48];
+    let long = put_list(&mut list, bits);
+    if list.len() < long {
+        return filling::load(t, m, &list);
+    }
+    filling::load(t, m, &list[0..long])
+}
+
+// Of 64 calls ten are clear, eight load, sixteen combine, fifteen add and fifteen remove. What is left of the number draws the missions of the first
+// three, and of combine the operation, of which 0 is none.
+fn change(t: &mut [u16], n: u32, m: u32, bits: u32, name: &[u8]) -> Answer {
+    let more = n / 64;
     match n % 64 {
-        0..=1 => changing::clear(t, m),
-        2..=33 => changing::add(t, m, name),
+        0..=9 => changing::clear(t, more % 16),
+        10..=17 => load(t, more % 16, bits),
+        18..=33 => filling::combine(t, more % 4, m, more / 4 % 16, more / 64 % 16),
+        34..=48 => changing::add(t, m, name),
         _ => changing::remove(t, m, name),
     }
 }
@@ -121,12 +196,12 @@ fn show_used(used: u64, i: u32) {
     }
 }
 
-// A refusal by another number than 11 shows in the digest.
+// Which refusals they are shows in the digest.
 fn counted(tally: Tally, number: u32, value: u64) -> Tally {
     let mut after = tally;
-    if number == 11 {
+    if number != 0 {
         after.refused = one_more(tally.refused);
-    } else if value == 1 {
+    } else if 0 < value {
         after.changed = one_more(tally.changed);
     } else {
         after.same = one_more(tally.same);
@@ -142,7 +217,13 @@ fn step(t: &mut [u16], i: u32, tally: Tally) -> Tally {
     let mut letters = [0u8; LONGEST];
     let seed = draw_letters(&mut letters, size);
     let n = size_of(high(size));
-    let reply = answer_reply(change(t, high(kind), mission_of(high(mission)), &letters[0..n]));
+    let reply = answer_reply(change(
+        t,
+        high(kind),
+        mission_of(high(mission)),
+        high(size),
+        &letters[0..n],
+    ));
     show_unsound(t, i);
     let used = answer_reply(calls::used(t)).value;
     show_used(used, i);

@@ -23,6 +23,9 @@ dense-row-requires c κs = search needs
 sub-put-fan : tie.Need-sub-put-fan Inv-loop μ-loop
 sub-put-fan c = search needs
 
+cast-put-fan : tie.Need-cast-put-fan Inv-loop μ-loop
+cast-put-fan c = search needs
+
 add-dense-row : tie.Need-add-dense-row Inv-loop μ-loop
 add-dense-row c = search needs
 
@@ -62,6 +65,7 @@ put-dense-spec =
     loop-holds
     dense-row-requires
     sub-put-fan
+    cast-put-fan
     add-dense-row
     dense-row-requires-2
     put-fan-requires

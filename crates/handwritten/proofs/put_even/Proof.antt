@@ -23,6 +23,9 @@ cast-put-evens c = search needs
 sub-put-evens : tie.Need-sub-put-evens Inv-loop μ-loop
 sub-put-evens c = search needs
 
+cast-put-evens-2 : tie.Need-cast-put-evens-2 Inv-loop μ-loop
+cast-put-evens-2 c = search needs
+
 put-evens-requires : tie.Need-put-evens-requires Inv-loop μ-loop
 put-evens-requires c κs = search needs
 
@@ -56,6 +59,7 @@ put-even-spec =
     loop-holds
     cast-put-evens
     sub-put-evens
+    cast-put-evens-2
     put-evens-requires
     add-i
     loop-less
