@@ -26,10 +26,10 @@ use Rattle.rows.specs.Table.{Table, start}
 use Rattle.rows.specs.Words.{words, lists}
 use Rattle.rows.specs.Rules.{sound}
 use Rattle.rows.proofs.Rules.{sound-facts, sound-length}
-use Rattle.rows.proofs.Facts.{no-row, used-row}
+use Rattle.rows.proofs.Facts.{no-row}
 use Rattle.rows.proofs.Words.{words-plain, words-none}
 use Rattle.rows.proofs.Growth.{grown-self}
-use Rattle.rows.proofs.Books.{list-names, no-empty, row-names, start-named}
+use Rattle.rows.proofs.Books.{list-names, no-start, no-empty, start-names}
 use Rattle.growing.specs.Growing.{MadeRow, MadeFull}
 use Rattle.settling.specs.Settled.{fits, Startable, Settles, Changed}
 use Rattle.settling.proofs.Settling.{no-row-startable, clear-fits, settled}
@@ -153,15 +153,13 @@ module _ (t : Table) (s : sound t ≡ true) (m : ℕ) (h : m < missions) where
 
   pub clear-none : start t m ≡ 0 → Changes t t (clear m) (answer.Done 0)
   clear-none e =
-      let none : list ≡ [] = rw (list-names t m h) (words-none t (start t m) (no-row t (start t m) e)) in
+      let none = no-start t m h e in
       same-changes t (clear m) (clear-run false (rw none) ∙ rw (← none, replace-itself))
 
   pub clear-settled : 0 < start t m → (after : Table) (done : Bool) → Settles t after m 0 done → Changes t after (clear m) (answer.Done 1)
   clear-settled some after done settles =
       let tidy = sound-facts t s .tidy in
-      let named = start-named t tidy m h in
-      let filled : hasNames list ≡ true = rw (list-names t m h, ← (row-names t tidy (start t m) named)) (used-row (named some)) in
       let none : words t 0 ≡ [] = words-none t 0 (no-row t 0 refl) in
       let c = rw none at (settled t t after s tidy (grown-self t) m 0 h (no-row-startable t) done settles) in
       let all : done ≡ true = c .says ∙ clear-fits t s m h in
-      done-changes t after (clear m) _ 1 (λ none. absurd (omega arith)) (clear-run true filled) (c .long) (c .sound) (rw all at (c .lists))
+      done-changes t after (clear m) _ 1 (λ none. absurd (omega arith)) (clear-run true (start-names t tidy m h some)) (c .long) (c .sound) (rw all at (c .lists))

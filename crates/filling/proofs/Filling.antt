@@ -23,9 +23,9 @@ use Rattle.rows.specs.Rules.{sound}
 use Rattle.rows.specs.Growth.{Useful}
 use Rattle.rows.specs.Reach.{swept}
 use Rattle.rows.proofs.Rules.{sound-facts}
-use Rattle.rows.proofs.Facts.{no-row, named-cases}
-use Rattle.rows.proofs.Words.{words-none, has-word}
-use Rattle.rows.proofs.Books.{lists-sixteen, list-names}
+use Rattle.rows.proofs.Facts.{named-cases}
+use Rattle.rows.proofs.Words.{has-word}
+use Rattle.rows.proofs.Books.{lists-sixteen, no-start}
 use Rattle.minimal.proofs.Theorems.{useful-need, sound-useful}
 use Rattle.growing.specs.Growing.{MadeRow, MadeFull}
 use Rattle.settling.specs.Settled.{withStart, Startable, Settles, Changed}
@@ -33,9 +33,6 @@ use Rattle.settling.proofs.Settling.{settled}
 use Rattle.settling.proofs.Swept.{swept-grown}
 
 module _ (t : Table) (s : sound t ≡ true) (m : ℕ) (h : m < missions) (empty : start t m ≡ 0) where
-  pub no-names : listOf (lists t) m ≡ []
-  no-names = list-names t m h ∙ words-none t (start t m) (no-row t (start t m) empty)
-
   module _ (l : Words) where
     abbrev new : List Words
     new = replace (lists t) m l
@@ -58,7 +55,7 @@ module _ (t : Table) (s : sound t ≡ true) (m : ℕ) (h : m < missions) (empty 
         list : (n : ℕ) → n < length (lists t) → Filled (getD (lists t) n []) → In (getD (lists t) n []) (states new)
         list n g some =
             elim (ℕ-discrete n m) [
-              | yes e ↦ absurd (rw (e, no-names) at some)
+              | yes e ↦ absurd (rw (e, no-start t m h empty) at some)
               | no e ↦
                   let same = replace-other (lists t) m n l e in
                   rw same at (list-in-states new n (rw long g) (rw same some))

@@ -29,8 +29,8 @@ use Rattle.rows.specs.Rules.{sound}
 use Rattle.rows.specs.Tidy.{Tidy}
 use Rattle.rows.specs.Reach.{swept}
 use Rattle.rows.proofs.Rules.{sound-facts, sound-length}
-use Rattle.rows.proofs.Facts.{used-row, named-inside}
-use Rattle.rows.proofs.Books.{list-names, no-empty, row-names, start-named}
+use Rattle.rows.proofs.Facts.{named-inside}
+use Rattle.rows.proofs.Books.{list-names, no-start, no-empty, row-names, start-names}
 use Rattle.growing.specs.Growing.{MadeRow, MadeFull}
 use Rattle.settling.specs.Settled.{fits, Startable, Settles}
 use Rattle.answers.specs.declared.cases.Refusal.the-variants.{NotEmpty, NoRoom}
@@ -40,7 +40,7 @@ use Rattle.admitting.specs.Admission.{firstTests}
 use Rattle.changing.specs.Promises.{settledAnswer, Changes}
 use Rattle.changing.proofs.Changes.{refused-changes, fits-or-not, settled-changes}
 use Rattle.filling.specs.Filling.{Loadable, isOperation, highest, Combinable}
-use Rattle.filling.proofs.Filling.{no-names, full-changed, row-startable, row-changed, row-same}
+use Rattle.filling.proofs.Filling.{full-changed, row-startable, row-changed, row-same}
 
 run-ruled : (b : Book) (call : Call) → run b call ≡ ruled b (rule b call)
 unfolding run
@@ -80,13 +80,6 @@ module _ {t : Table} {m : ℕ} {call : Call} {l : Words} {v : ℕ} (fills : Fill
         let same = row-same t (fills .sound) m (fills .mission) (fills .empty) l u most r made (fills .names) after done settles in
         settled-changes t after call m l v (λ none. same (fills .nothing none)) done c (fills .says done (c .says))
 
--- a start, so there are names
-has-names : (t : Table) → sound t ≡ true → (m : ℕ) → m < missions → 0 < start t m → hasNames (listOf (lists t) m) ≡ true
-has-names t s m h some =
-    let tidy = sound-facts t s .tidy in
-    let named = start-named t tidy m h in
-    rw (list-names t m h, ← (row-names t tidy (start t m) named)) (used-row (named some))
-
 -- ---- load
 
 -- "The empty word is no name", so it is not among the names of a list
@@ -106,7 +99,7 @@ list-few list e = rw length-map (omega (arith, list-parts list e .0, lines-few l
 module _ (t : Table) (m : ℕ) (list : List ℕ) (fine : Loadable t m list) where
   pub load-not-empty : 0 < start t m → Changes t t (load m list) (answer.Refused NotEmpty)
   load-not-empty some =
-      let full = has-names t (fine .sound) m (fine .mission) some in
+      let full = start-names t (sound-facts t (fine .sound) .tidy) m (fine .mission) some in
       refused-changes t (load m list) NotEmpty
       (run-ruled (bookOf t) (load m list)
       ∙ rw (sound-length t (fine .sound), mission-under m (fine .mission), fine .listed, fine .sound, full))
@@ -124,7 +117,7 @@ module _ (t : Table) (m : ℕ) (list : List ℕ) (fine : Loadable t m list) wher
       }
     where
       none : listOf (lists t) m ≡ []
-      none = no-names t (fine .sound) m (fine .mission) empty
+      none = no-start t m (fine .mission) empty
 
 -- ---- combine
 
@@ -166,7 +159,7 @@ module _ (t : Table) (op a b c : ℕ) (fine : Combinable t op a b c) where
 
   pub combine-not-empty : 0 < start t c → Changes t t (combine op a b c) (answer.Refused NotEmpty)
   combine-not-empty some =
-      let full = has-names t (fine .sound) c third some in
+      let full = start-names t (sound-facts t (fine .sound) .tidy) c third some in
       refused-changes t (combine op a b c) NotEmpty
       (run-ruled (bookOf t) (combine op a b c)
       ∙ rw (sound-length t (fine .sound), mission-under a first, mission-under b second, mission-under c third, fine .operation, fine .sound, full))
@@ -189,7 +182,7 @@ module _ (t : Table) (op a b c : ℕ) (fine : Combinable t op a b c) where
       tidy = sound-facts t (fine .sound) .tidy
 
       none : listOf (lists t) c ≡ []
-      none = no-names t (fine .sound) c third empty
+      none = no-start t c third empty
 
       says : (done : Bool) → done ≡ fits t c result
           → run (bookOf t) (combine op a b c) ≡ cond done (leaves (replace (lists t) c result) (flag (hasNames result))) (refused 11 (bookOf t))

@@ -44,6 +44,9 @@ module _ (t : Table) where
   unfolding shortWords
   list-names m h = List·getD-map (λ n. words t n) (starts t) m 0 ∙ rw (each-at (λ m. start t m) missions m 0 h)
 
+  pub no-start : (m : ℕ) → m < missions → start t m ≡ 0 → listOf (lists t) m ≡ []
+  no-start m h e = list-names m h ∙ words-none t (start t m) (no-row t (start t m) e)
+
   each-list : (P : Words → Type 0) → ((m : ℕ) → m < missions → P (names t m)) → Each P (lists t)
   each-list P f = each-map P (λ n. words t n) (starts t) (each-given (λ m. start t m) _ missions f)
 
@@ -84,6 +87,10 @@ module _ (t : Table) where
           | inl u ↦ rw (used-row u, filled-names (words t n) (has-word t tidy n u))
           | inr e ↦ let out = no-row t n e in rw (out, words-none t n out)
         ]
+
+    -- "the start row of mission m, or 0 if its list is empty"
+    pub start-names : (m : ℕ) → m < missions → 0 < start t m → hasNames (listOf (lists t) m) ≡ true
+    start-names m h some = let named = start-named m h in rw (list-names m h, ← (row-names (start t m) named)) (used-row (named some))
 
     row-follows : (n x : ℕ) → Named t n → x < letters → hasArc t n x ≡ hasNames (after x (words t n))
     unfolding after

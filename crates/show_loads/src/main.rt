@@ -73,9 +73,9 @@ fn show_lists(t: &mut [u16]) {
     show_load(b"no bytes, not empty", t, 1, b"");
 }
 
-// Each refusal, and the lowest of several. The last row of the table is 51; a number 39 of it makes the book not sound.
+// Each refusal, and the lowest of several. Room 30; a number 39 of the last row makes the book not sound.
 fn show_refusals() {
-    let mut t = [7u16; 2080];
+    let mut t = [7u16; 2240];
     let mut short = [0u16; 1040];
     calls::empty(&mut t);
     show_no_lists(&mut t);
@@ -85,7 +85,7 @@ fn show_refusals() {
     show_load(b"mission 16", &mut t, 16, b"A\n");
     show_load(b"mission 16, no list", &mut t, 16, b"A");
     show_load(b"no room", &mut t, 2, b"_0123456789ABCDEFGHIJKLM\n");
-    handwritten::put(&mut t, 51, 39, 1);
+    handwritten::put(&mut t, 55, 39, 1);
     show_load(b"not sound, not empty", &mut t, 1, b"C\n");
     show_load(b"not sound, no list", &mut t, 1, b"C");
 }
