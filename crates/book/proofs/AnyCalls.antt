@@ -1,7 +1,7 @@
 -- After any calls from an empty book, the book is sound, its lists are those of sixteen plain sets, every number and value was theirs, and no
 -- automaton has the lists in fewer states. Each call keeps a sound book, and on a sound book its promise is the model's outcome; the rest is
 -- by induction over the calls. Assumes nothing.
-use Prim.Native.Nat.{ℕ, zero, suc}
+use Prim.Native.Nat.{ℕ}
 use mathlib.Core.Path.{_≡_, refl, sym, _∙_, ap, ap₂}
 use mathlib.Core.Bool.{true}
 use mathlib.Core.List.{List, [], _∷_}
@@ -9,9 +9,9 @@ use lib.ListN.{length, length-replicate}
 use Rattle.model.specs.Lists.{emptyLists}
 use Rattle.model.specs.Call.{Call, Book}
 use Rattle.model.specs.Call.Call.{empty, check, ask, next, add, remove, clear, load, combine, count, rank, nth, used}
-use Rattle.model.specs.Refusals.{given}
 use Rattle.model.specs.Rules.{Rule}
-use Rattle.model.specs.Run.{rule, outcome, ruled, run}
+use Rattle.model.specs.Run.{rule, ruled, run}
+use Rattle.model.proofs.Changes.{refused-or-done}
 use Rattle.rows.specs.Table.{Table, lengthOk, room}
 use Rattle.rows.specs.Words.{lists}
 use Rattle.rows.specs.Rules.{sound}
@@ -25,6 +25,9 @@ use Rattle.calls.specs.Promises.{Empties}
 use Rattle.book.specs.Promised.{Changing, Reading, Promised}
 use Rattle.book.specs.Histories.{Said, Happens, bookWith, AsPlainSets}
 
+empty-long : {t after : Table} {a : Answer} → lengthOk t ≡ true → Empties t after a → length after ≡ length t
+empty-long {t} fine p = ap length (p .table) ∙ rw fine (length-replicate {A = ℕ} (length t) 0)
+
 -- what a call leaves of a sound book
 record Kept (t after : Table) (call : Call) (reply : Reply) : Type 0 where
   fine : sound after ≡ true
@@ -34,7 +37,7 @@ record Kept (t after : Table) (call : Call) (reply : Reply) : Type 0 where
 
 -- a refusal leaves the lists, and so does a call that only answers
 reads : (b : Book) (r : Rule) → r .done .lists ≡ b .lists → b .lists ≡ ruled b r .lists
-reads b r e = elim (given (r .refusals)) as (λ n. b .lists ≡ outcome b n (r .done) .lists) [ zero ↦ sym e | suc n ↦ refl ]
+reads b r e = sym (refused-or-done b (λ ls. ls) r e)
 
 module _ (t after : Table) (s : sound t ≡ true) where
   changed : (call : Call) (reply : Reply) → Changing t after call reply → Kept t after call reply
@@ -53,7 +56,7 @@ module _ (t after : Table) (s : sound t ≡ true) where
       let fine = sound-length t s in
       record {
         fine = p .sound fine;
-        long = ap length (p .table) ∙ rw fine (length-replicate {A = ℕ} (length t) 0);
+        long = empty-long fine p;
         names = p .lists;
         said = e ∙ p .answers;
       }
@@ -100,7 +103,7 @@ no-names t e = rw e
 pub any-calls : (slice t after : Table) (a : Answer) (history : List Said) → lengthOk slice ≡ true → Empties slice t a → Happens history t after
     → AsPlainSets (room slice) emptyLists history after
 any-calls slice t after a history fine p happens =
-    let long : length t ≡ length slice = ap length (p .table) ∙ rw fine (length-replicate {A = ℕ} (length slice) 0) in
+    let long = empty-long fine p in
     let none : lists t ≡ emptyLists = p .lists ∙ no-names slice fine in
     let same-room : room t ≡ room slice = rw long in
     rw (none, same-room) at (sound-calls history t after (p .sound fine) happens)

@@ -37,6 +37,7 @@ use Rattle.growing.specs.declared.makes.Made.{Made}
 use Rattle.growing.specs.declared.makes.Made.the-variants.{Full}
 use Rattle.growing.specs.Growing.{Fitting, MadeRow, MadeFull, Makes}
 use Rattle.growing.proofs.Growing.{Within, within-after, makes-on, full-on}
+use Rattle.growing.proofs.Targets.{end-marked, mark-ends}
 
 -- a row's mark and targets, or those of a missing row
 module _ (t : Table) (tidy : Tidy t) (r : ℕ) (named : Named t r) where
@@ -85,8 +86,8 @@ module _ (t : Table) (tidy : Tidy t) (r : ℕ) (named : Named t r) where
     pub end-fits : Fitting t (endMark on) (targetsOf t r)
     end-fits =
         record {
-          some = elim on as (λ b. 0 < endMark b) [ true ↦ omega arith | false ↦ omega arith ];
-          most = elim on as (λ b. endMark b ≤ 2) [ true ↦ omega arith | false ↦ omega arith ];
+          some = end-marked (endMark on) on refl .0;
+          most = end-marked (endMark on) on refl .1;
           named = λ x h. rw (targets-at x h) (target-of-named x h);
           short = λ x h. rw (targets-at x h) (target-of-short x h);
         }
@@ -97,7 +98,7 @@ module _ (t : Table) (tidy : Tidy t) (r : ℕ) (named : Named t r) where
         plain-ext _ (withName on [] (words t r)) (fan-plain (endMark on) _ (λ x. words-plain t _)) (plain-with-name on [] _ tt (words-plain t r)) same-words
       where
         same-words : (v : Word) → Spelled v → member v (wordsOver t (endMark on) (targetsOf t r)) ≡ member v (withName on [] (words t r))
-        same-words [] s = rw (fan-empty, member-with-name) (elim on as (λ b. eqb (endMark b) 2 ≡ b) [ true ↦ refl | false ↦ refl ])
+        same-words [] s = rw (fan-empty, member-with-name) (mark-ends on)
         same-words (x ∷ v) s = rw (fan-word, lt-ltb x letters (s .0), targets-at x (s .0), target-of-words x (s .0), member-after, member-with-name)
 
   -- the word goes on, and n is the row for what is left

@@ -18,7 +18,7 @@ use Rattle.sets.proofs.Sets.{member-each}
 use Rattle.model.specs.Lists.{lastMission, missions, listOf, replace, hasNames}
 use Rattle.model.specs.Call.{Call, Book}
 use Rattle.model.specs.Call.Call.{load, combine}
-use Rattle.model.specs.Refusals.{given}
+use Rattle.model.specs.Refusals.{isOperation, given}
 use Rattle.model.specs.Rules.{leaves, combined}
 use Rattle.model.specs.Run.{rule, refused, ruled, run}
 use Rattle.model.proofs.Refusals.{mission-under}
@@ -39,7 +39,7 @@ use Rattle.admitting.specs.Books.{bookOf}
 use Rattle.admitting.specs.Admission.{firstTests}
 use Rattle.changing.specs.Promises.{settledAnswer, Changes}
 use Rattle.changing.proofs.Changes.{refused-changes, fits-or-not, settled-changes}
-use Rattle.filling.specs.Filling.{Loadable, isOperation, highest, Combinable}
+use Rattle.filling.specs.Filling.{Loadable, highest, Combinable}
 use Rattle.filling.proofs.Filling.{full-changed, row-startable, row-changed, row-same}
 
 run-ruled : (b : Book) (call : Call) → run b call ≡ ruled b (rule b call)

@@ -14,9 +14,10 @@ ghost use mathlib.Core.Path.{_≡_};
 ghost use lib.Dec.{ltb};
 ghost use Rattle.letters.specs.LetterSet.{flag};
 ghost use Rattle.model.specs.Call.Call.{combine};
+ghost use Rattle.model.specs.Refusals.{isOperation};
 ghost use Rattle.rows.specs.Table.{start};
 ghost use Rattle.changing.specs.Promises.{Changes};
-ghost use Rattle.filling.specs.Filling.{isOperation, highest, Combinable};
+ghost use Rattle.filling.specs.Filling.{highest, Combinable};
 
 // "combine 1 if the result has a name, else 0".
 fn has_names(r: u16) -> u32

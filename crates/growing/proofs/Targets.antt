@@ -47,6 +47,11 @@ pub end-marked : (k : ℕ) (ends : Bool) → k ≡ endMark ends → (0 < k) × (
 end-marked k true e = (omega arith, omega arith)
 end-marked k false e = (omega arith, omega arith)
 
+-- the mark says whether a name may end there
+pub mark-ends : (ends : Bool) → eqb (endMark ends) 2 ≡ ends
+mark-ends true = refl
+mark-ends false = refl
+
 -- no target yet
 pub targets-none : (t : Table) → Tidy t → (l : Words) → Targets t t l (λ x. []) (replicate letters 0)
 targets-none t tidy l =
@@ -109,7 +114,7 @@ module _ {t u : Table} {l : Words} {given : ℕ → Words} {ts : List ℕ} (so-f
     over-words = plain-ext _ l (fan-plain (endMark (member [] l)) _ (λ x. words-plain u _)) plain same
       where
         same : (w : Word) → Spelled w → member w (wordsOver u (endMark (member [] l)) ts) ≡ member w l
-        same [] s = rw fan-empty (elim (member [] l) as (λ b. eqb (endMark b) 2 ≡ b) [ true ↦ refl | false ↦ refl ])
+        same [] s = rw fan-empty (mark-ends (member [] l))
         same (x ∷ w) s = rw (fan-word, lt-ltb x letters (s .0), target-words x (s .0)) (member-after x w l)
 
     pub targets-made : (v : Table) (made : Made) → Makes 1 u v (wordsOver u (endMark (member [] l)) ts) made → Makes (rowCount t) t v l made

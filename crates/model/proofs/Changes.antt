@@ -4,6 +4,7 @@ use Prim.Native.Nat.{ℕ, zero, suc, _<_}
 use native.Mathlib.Omega.{arith}
 use mathlib.Core.Path.{_≡_, refl, sym}
 use mathlib.Core.Bool.{Bool, true, false, false≢true}
+use mathlib.Core.List.{List}
 use lib.Dec.{eqb}
 use borrow.Author.Tests.{eqb-false}
 use Rattle.sets.specs.Sets.{Words}
@@ -19,13 +20,15 @@ use Rattle.model.proofs.Lists.{replace-other}
 use Rattle.model.proofs.Refusals.{lowest-given}
 
 module _ (b : Book) where
-  refused-or-done : (r : Rule) (n : ℕ) → listOf (r .done .lists) n ≡ listOf (b .lists) n → listOf (ruled b r .lists) n ≡ listOf (b .lists) n
-  refused-or-done r n e =
-      elim (given (r .refusals)) as (λ k. listOf (outcome b k (r .done) .lists) n ≡ listOf (b .lists) n) [ zero ↦ e | suc k ↦ refl ]
+  -- whatever is read of the lists
+  pub refused-or-done : {A : Type 0} (read : List Words → A) (r : Rule) → read (r .done .lists) ≡ read (b .lists)
+      → read (ruled b r .lists) ≡ read (b .lists)
+  refused-or-done read r e =
+      elim (given (r .refusals)) as (λ k. read (outcome b k (r .done) .lists) ≡ read (b .lists)) [ zero ↦ e | suc k ↦ refl ]
 
   replaced : (r : Rule) (n m : ℕ) (l : Words) → r .done .lists ≡ replace (b .lists) m l → eqb n m ≡ false
       → listOf (ruled b r .lists) n ≡ listOf (b .lists) n
-  replaced r n m l e other = refused-or-done r n (rw e (replace-other (b .lists) m n l (eqb-false n m other)))
+  replaced r n m l e other = refused-or-done (λ ls. listOf ls n) r (rw e (replace-other (b .lists) m n l (eqb-false n m other)))
 
   pub run-others : (c : Call) (n : ℕ) → changes c n ≡ false → listOf (run b c .lists) n ≡ listOf (b .lists) n
   unfolding run
@@ -35,13 +38,13 @@ module _ (b : Book) where
   run-others (clear m) n other = replaced (rule b (clear m)) n m _ refl other
   run-others (load m bytes) n other = replaced (rule b (load m bytes)) n m _ refl other
   run-others (combine op x y z) n other = replaced (rule b (combine op x y z)) n z _ refl other
-  run-others check n other = refused-or-done (rule b check) n refl
-  run-others (ask m name) n other = refused-or-done (rule b (ask m name)) n refl
-  run-others (next m prefix) n other = refused-or-done (rule b (next m prefix)) n refl
-  run-others (count m) n other = refused-or-done (rule b (count m)) n refl
-  run-others (rank m name) n other = refused-or-done (rule b (rank m name)) n refl
-  run-others (nth m k size) n other = refused-or-done (rule b (nth m k size)) n refl
-  run-others used n other = refused-or-done (rule b used) n refl
+  run-others check n other = refused-or-done (λ ls. listOf ls n) (rule b check) refl
+  run-others (ask m name) n other = refused-or-done (λ ls. listOf ls n) (rule b (ask m name)) refl
+  run-others (next m prefix) n other = refused-or-done (λ ls. listOf ls n) (rule b (next m prefix)) refl
+  run-others (count m) n other = refused-or-done (λ ls. listOf ls n) (rule b (count m)) refl
+  run-others (rank m name) n other = refused-or-done (λ ls. listOf ls n) (rule b (rank m name)) refl
+  run-others (nth m k size) n other = refused-or-done (λ ls. listOf ls n) (rule b (nth m k size)) refl
+  run-others used n other = refused-or-done (λ ls. listOf ls n) (rule b used) refl
 
   -- a call that 7 refuses, "book not sound", comes to a value above 0 only on a sound book
   pub done-sound : (c : Call) → In (notSound b) (rule b c .refusals) → 0 < run b c .value → b .sound ≡ true

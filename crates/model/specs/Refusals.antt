@@ -31,8 +31,11 @@ abbrev pub badMission : ℕ → Refusal
 badMission m = record { number = 2; applies = ltb lastMission m }
 
 -- 3: "operation not 1, 2 or 3"
+abbrev pub isOperation : ℕ → Bool
+isOperation op = leb 1 op && leb op 3
+
 abbrev pub badOperation : ℕ → Refusal
-badOperation op = record { number = 3; applies = not (leb 1 op && leb op 3) }
+badOperation op = record { number = 3; applies = not (isOperation op) }
 
 -- 4: "no name (next: no prefix) by the rules above"
 abbrev pub noName : List ℕ → Refusal

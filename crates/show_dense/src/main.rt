@@ -57,7 +57,7 @@ fn show_evens() {
 
 // As many rows as the two lists use, and the 25 above the room: rows run out midway.
 fn show_no_row() {
-    let mut t = [0u16; 4840];
+    let mut t = [0u16; 4800];
     put_evens(&mut t);
     show_operations(b"no row free", &mut t);
 }

@@ -3,10 +3,11 @@ use mathlib.Core.Path.{sym, _∙_}
 use native.Mathlib.Omega.{arith}
 use borrow.Author.Needs.{needs}
 use Rattle.model.specs.Call.Call.{combine}
+use Rattle.model.specs.Refusals.{isOperation}
 use Rattle.answers.specs.declared.cases.Refusal.the-variants.{Operation}
 use Rattle.admitting.proofs.Admitting.{admitted, refused-first}
 use Rattle.changing.proofs.Changes.{refused-changes}
-use Rattle.filling.specs.Filling.{isOperation, highest}
+use Rattle.filling.specs.Filling.{highest}
 use Rattle.filling.proofs.Outcomes.{combine-begins}
 use Rattle.filling.proofs.combines.combine.Statement.{statement}
 use Rattle.filling.proofs.combines.combine.Tie as tie
