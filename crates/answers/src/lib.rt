@@ -10,3 +10,4 @@ pub use replies::Reply;
 pub use replies::answer_reply;
 pub use replies::ask_reply;
 pub use replies::next_reply;
+pub use replies::refusal_number;

@@ -13,7 +13,8 @@ pub struct Reply {
     pub second: u32,
 }
 
-fn refusal_number(r: Refusal) -> u32
+// 01, "Refusal numbers".
+pub fn refusal_number(r: Refusal) -> u32
     ensures { λ n. ⌜ n ≡ refusalNumber r ⌝ }
 {
     match r {

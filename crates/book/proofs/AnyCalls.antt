@@ -25,15 +25,15 @@ use Rattle.calls.specs.Promises.{Empties}
 use Rattle.book.specs.Promised.{Changing, Reading, Promised}
 use Rattle.book.specs.Histories.{Said, Happens, bookWith, AsPlainSets}
 
-empty-long : {t after : Table} {a : Answer} → lengthOk t ≡ true → Empties t after a → length after ≡ length t
+pub empty-long : {t after : Table} {a : Answer} → lengthOk t ≡ true → Empties t after a → length after ≡ length t
 empty-long {t} fine p = ap length (p .table) ∙ rw fine (length-replicate {A = ℕ} (length t) 0)
 
 -- what a call leaves of a sound book
-record Kept (t after : Table) (call : Call) (reply : Reply) : Type 0 where
-  fine : sound after ≡ true
-  long : length after ≡ length t
-  names : lists after ≡ run (bookOf t) call .lists
-  said : reply ≡ replyOf (run (bookOf t) call)
+pub record Kept (t after : Table) (call : Call) (reply : Reply) : Type 0 where
+  pub fine : sound after ≡ true
+  pub long : length after ≡ length t
+  pub names : lists after ≡ run (bookOf t) call .lists
+  pub said : reply ≡ replyOf (run (bookOf t) call)
 
 -- a refusal leaves the lists, and so does a call that only answers
 reads : (b : Book) (r : Rule) → r .done .lists ≡ b .lists → b .lists ≡ ruled b r .lists
@@ -50,7 +50,8 @@ module _ (t after : Table) (s : sound t ≡ true) where
   reading : (call : Call) (reply : Reply) → lists t ≡ run (bookOf t) call .lists → Reading t after call reply → Kept t after call reply
   reading call reply same (a, p, e, after-it) = unchanged call reply same (e ∙ p) after-it
 
-  kept : (call : Call) (reply : Reply) → Promised t after call reply → Kept t after call reply
+  -- One call on a sound book.
+  pub kept : (call : Call) (reply : Reply) → Promised t after call reply → Kept t after call reply
   unfolding run
   kept empty reply (a, p, e) =
       let fine = sound-length t s in
@@ -77,7 +78,7 @@ module _ (t after : Table) (s : sound t ≡ true) where
   kept used reply p = reading used reply (reads (bookOf t) (rule (bookOf t) used) refl) p
 
 -- what the model finds in a sound book
-sound-book : (t : Table) → sound t ≡ true → bookOf t ≡ bookWith (room t) (lists t)
+pub sound-book : (t : Table) → sound t ≡ true → bookOf t ≡ bookWith (room t) (lists t)
 sound-book t s = rw (sound-length t s, s)
 
 -- After any calls on a sound book.

@@ -1,2 +1,3 @@
--- The one statement over all calls. Assumes nothing.
+-- The statements over all calls. Assumes nothing.
 pub mod AnyCalls
+pub mod Tight

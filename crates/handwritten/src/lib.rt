@@ -11,6 +11,15 @@ pub fn put(t: &mut [u16], r: u16, i: u16, n: u16) {
     }
 }
 
+// Puts a byte into a list, and says where the next one goes. Nothing is put behind the end.
+pub fn put_byte(list: &mut [u8], at: usize, b: u8) -> usize {
+    if list.len() <= at {
+        return at;
+    }
+    list[at] = b;
+    at + 1
+}
+
 // Puts the start of mission m.
 pub fn put_start(t: &mut [u16], m: u16, r: u16) {
     put(t, 0, m, r);

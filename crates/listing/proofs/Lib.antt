@@ -1,7 +1,7 @@
 -- The laws that the listing's functions go by. Assumes nothing.
-pub mod Buffers
 pub mod Lines
 pub mod Steps
 pub mod Spelling
 pub mod Listed
+pub mod Fitting
 pub mod Tight

@@ -16,14 +16,14 @@ use Rattle.sets.specs.Sets.{Words}
 use Rattle.model.specs.Lists.{nthOf}
 use Rattle.model.specs.Call.{overlaid}
 use Rattle.listing.specs.Pieces.{line, lines, fitting, lineIn, Written}
-use Rattle.listing.proofs.Buffers.{Front, front-none, front-more, take-more, front-overlaid, overlaid-front, overlaid-take, lent, back}
-use Rattle.listing.proofs.Buffers.{length-lent, lent-back, lent-unwritten, front-lent, take-lent}
+use Rattle.printing.proofs.Buffers.{Front, front-none, front-overlaid, overlaid-take, lent, back, overlaid-wrote, wrote-byte}
+use Rattle.printing.proofs.Buffers.{length-lent, lent-back, lent-unwritten, front-lent, take-lent}
 
 -- a name's line, and whether it fits
 length-line : (w : Word) → length (line w) ≡ length w + 1
 length-line w = simp (length-append, length-map)
 
-fits-more : (size : ℕ) (w : Word) (l : Words) → length w < size → fitting size (w ∷ l) ≡ w ∷ fitting (size - length (line w)) l
+pub fits-more : (size : ℕ) (w : Word) (l : Words) → length w < size → fitting size (w ∷ l) ≡ w ∷ fitting (size - length (line w)) l
 unfolding fitting
 fits-more size w l h = rw (le-leb (length (line w)) size (omega (arith, length-line w)))
 
@@ -46,12 +46,8 @@ pub line-written : (w : Word) (before other : List ℕ) {i : ℕ} {word after : 
 line-written w before other {i} {word} {after} long spelled room copied =
     let size : length (bytesOf w) ≡ i = length-map w byteOf ∙ sym long in
     let bytes : take i word ≡ bytesOf w = rw spelled (overlaid-take i (bytesOf w) other size) in
-    let copy : after ≡ overlaid (bytesOf w) before = copied ∙ rw bytes in
-    let front : Front i before after = rw copy (overlaid-front i (bytesOf w) before size (omega arith)) in
-    let whole : take (i + 1) (set after i lineEnd) ≡ line w =
-    take-more i after lineEnd (omega (arith, front .long)) ∙ rw (ap (take i) copy ∙ overlaid-take i (bytesOf w) before size) in
-    let end : length (line w) ≡ i + 1 = length-line w ∙ omega arith in
-    rw (line-fits (length before) w (omega arith)) (sym end, front-overlaid (front-more lineEnd front) whole end)
+    let all = wrote-byte lineEnd (overlaid-wrote (bytesOf w) before (sym size, copied ∙ rw bytes)) room in
+    rw (line-fits (length before) w (omega arith)) (all .long, all .buffer)
 
 pub line-not-written : (w : Word) (buffer : List ℕ) → length buffer ≤ length w
     → (0 ≡ length (lineIn (length buffer) w)) × (buffer ≡ overlaid (lineIn (length buffer) w) buffer)

@@ -2,17 +2,21 @@
 use Prim.Native.Nat.{ℕ, _≤_, _<_}
 use native.Mathlib.Omega.{arith}
 use mathlib.Core.Path.{_≡_, refl}
-use mathlib.Core.Bool.{true, false, and-false}
+use mathlib.Core.Bool.{Bool, true, false, cond, _&&_, and-false}
 use mathlib.Core.List.{List, []}
 use lib.ListN.{length, drop}
 use lib.Seq.{drop-nil}
-use borrow.Author.Tests.{le-leb, lt-leb}
+use lib.Dec.{leb}
+use borrow.Author.Tests.{le-leb, lt-leb, leb-true}
+use Rattle.letters.specs.Each.{Each}
+use Rattle.letters.specs.Names.{longest}
 use Rattle.sets.specs.Sets.{Words}
 use Rattle.sets.specs.Cut.{most}
-use Rattle.model.specs.Lists.{lastMission, missions}
-use Rattle.rows.specs.Table.{Table}
-use Rattle.rows.specs.Words.{names}
+use Rattle.model.specs.Lists.{lastMission, missions, listOf}
+use Rattle.rows.specs.Table.{Table, start}
+use Rattle.rows.specs.Words.{lists, names}
 use Rattle.rows.specs.Rules.{sound}
+use Rattle.rows.proofs.Words.{words-short}
 use Rattle.rows.proofs.Books.{list-names}
 use Rattle.listing.specs.Pieces.{lines, fitting, unlessOver, listed, Written}
 
@@ -40,3 +44,24 @@ module _ (t : Table) (m : ℕ) where
   pub listed-names : sound t ≡ true → m < missions → listed t m ≡ unlessOver (names t m)
   unfolding listed
   listed-names e h = rw (e, le-leb m lastMission (omega arith), list-names t m h)
+
+  -- no more names are listed than a count may say
+  pub listed-few : length (listed t m) ≤ most
+  unfolding listed
+  listed-few = go (sound t && leb m lastMission) (leb (length (listOf (lists t) m)) most) refl
+    where
+      go : (fine few : Bool) → leb (length (listOf (lists t) m)) most ≡ few → length (cond fine (cond few (listOf (lists t) m) []) []) ≤ most
+      go false few e = omega arith
+      go true false e = omega arith
+      go true true e = leb-true (length (listOf (lists t) m)) most e
+
+  pub listed-short : Each (λ w. length w ≤ longest) (listed t m)
+  unfolding listed
+  listed-short = go (sound t) (leb m lastMission) (leb (length (listOf (lists t) m)) most) refl
+    where
+      go : (fine inside few : Bool) → leb m lastMission ≡ inside
+          → Each (λ w. length w ≤ longest) (cond (fine && inside) (cond few (listOf (lists t) m) []) [])
+      go false inside few e = tt
+      go true false few e = tt
+      go true true false e = tt
+      go true true true e = rw (list-names t m (omega (arith, leb-true m lastMission e))) (words-short t (start t m))

@@ -23,7 +23,7 @@ use Rattle.rows.proofs.Facts.{target-lower}
 use Rattle.counting.proofs.Ahead.{nth-here, nth-words}
 use Rattle.listing.specs.declared.word.Step.{Step}
 use Rattle.listing.specs.Steps.{Listable, Leads}
-use Rattle.listing.proofs.Buffers.{Front, front-none, front-more, take-more, front-overlaid}
+use Rattle.printing.proofs.Buffers.{Front, front-none, front-more, take-more, front-overlaid}
 use Rattle.listing.proofs.Steps.{row-used, target-listable}
 
 -- the word is begun: i letters are written, and at the row the rest of the word has `left` words before it

@@ -5,13 +5,14 @@ use counting::count_at;
 use counting::count_names;
 use letters::LINE_END;
 use letters::LONGEST;
+use printing::copy_front;
 use rows::MISSIONS;
 use rows::MOST_ROWS;
 use rows::start;
 use rules::sound;
-ghost use Prim.Native.Nat.{_≤_, _<_};
+ghost use Prim.Native.Nat.{_<_};
 ghost use mathlib.Core.Path.{_≡_};
-ghost use lib.ListN.{length, take, drop};
+ghost use lib.ListN.{length, drop};
 ghost use Rattle.model.specs.Lists.{missions, nthOf};
 ghost use Rattle.model.specs.Call.{overlaid};
 ghost use Rattle.rows.specs.Words.{words, names};
@@ -23,18 +24,6 @@ ghost use Rattle.listing.specs.Pieces.{fitting, lineIn, unlessOver, piec
 pub struct Piece {
     pub names: u32,
     pub bytes: usize,
-}
-
-// Copies the first n bytes to the front of the buffer.
-fn copy_front(from: &[u8], n: usize, out: &mut [u8])
-    requires { ⌜ (n ≤ length (now from)) × (n ≤ length (now out)) ⌝ }
-    ensures { λ _. ⌜ now (out .exit) ≡ overlaid (take n (now (from .entry))) (now (out .entry)) ⌝ }
-{
-    let mut i = 0;
-    while i < n {
-        out[i] = from[i];
-        i += 1;
-    }
 }
 
 // Writes the word of the row with n words before it, followed by 0x0A, to the front of the buffer if

@@ -1,6 +1,7 @@
 // Runs load on the longest list, and on lists that need 1,000, 1,001, 1,025 and 1,026 states in a table of the most rows: the last one finds no
 // row free midway. Of each call it prints the number, the value and whether any number of the table changed. The file stdout is what it must
 // print: it was written by another program, which keeps sixteen plain sets and counts their states.
+use handwritten::put_byte;
 use letters::LETTERS;
 use letters::LINE_END;
 use letters::LONGEST;
@@ -10,15 +11,6 @@ use showing::show_ask;
 use showing::show_clear_used;
 use showing::show_count;
 use showing::show_load_used;
-
-// Puts a byte, and says where the next one goes. Nothing is put behind the end.
-fn put_byte(list: &mut [u8], at: usize, b: u8) -> usize {
-    if list.len() <= at {
-        return at;
-    }
-    list[at] = b;
-    at + 1
-}
 
 fn put_letter(list: &mut [u8], at: usize, x: usize) -> usize {
     put_byte(list, at, byte_of(x % LETTERS))

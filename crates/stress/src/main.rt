@@ -5,6 +5,7 @@
 // is what it must print: it was written by another program, which keeps sixteen lists of its own and counts their states.
 use answers::Answer;
 use answers::answer_reply;
+use handwritten::put_byte;
 use letters::LONGEST;
 use libc::STDOUT_FILENO;
 use rows::MISSIONS;
@@ -14,6 +15,93 @@ ghost use Rattle.letters.specs.Names.{longest};
 
 // The calls of a room.
 const CALLS: u32 = 1200;
+
+// The names of up to three letters that are 0 or _.
+const NAMES: u32 = 14;
+
+// The prime that the digest is kept below.
+const PRIME: u64 = 2147483647;
+
+// What was drawn last, and what the calls came to. No count comes near the end of its type, and a sum that wraps asks for no proof of that.
+struct Tally {
+    seed: u32,
+    changed: u32,
+    same: u32,
+    refused: u32,
+    digest: u32,
+}
+
+fn say(text: &[u8]) {
+    io::write_all(STDOUT_FILENO, text);
+}
+
+fn say_number(n: u64) {
+    io::print_decimal(STDOUT_FILENO, n);
+}
+
+fn one_more(n: u32) -> u32 {
+    std::num::wrapping_add_u32(n, 1)
+}
+
+// The next number of the generator.
+fn drawn(seed: u32) -> u32 {
+    ((seed as u64 * 1664525 + 1013904223) % 4294967296) as u32
+}
+
+// Its high half: the low bits of the generator's numbers come round soon.
+fn high(seed: u32) -> u32 {
+    seed / 65536
+}
+
+// One call in eight goes to any of the sixteen.
+fn mission_of(n: u32) -> u32 {
+    let any = n % 128;
+    if (any as usize) < MISSIONS {
+        any
+    } else {
+        n % 3
+    }
+}
+
+// Short names are drawn more often: few of the long ones fit a small room.
+fn size_of(n: u32) -> usize
+    ensures { λ r. ⌜ r ≤ longest ⌝ }
+{
+    match n % 32 {
+        0 => (n / 32) as usize % LONGEST + 1,
+        1..=12 => 1,
+        13..=22 => 2,
+        23..=28 => 3,
+        _ => 4,
+    }
+}
+
+fn letter(n: u32) -> u8 {
+    if n % 2 == 0 { 0x30 } else { 0x5F }
+}
+
+// Draws a letter for each place, and says what was drawn last.
+fn draw_letters(name: &mut [u8], seed: u32) -> u32 {
+    let mut last = seed;
+    let mut i = 0;
+    while i < name.len() {
+        last = drawn(last);
+        name[i] = letter(high(last));
+        i += 1;
+    }
+    last
+}
+
+// Puts bytes, and says where the next ones go. Nothing is put behind the end.
+fn put_bytes(list: &mut [u8], at: usize, bytes: &[u8]) -> usize {
+    let mut place = at;
+    let mut i = 0;
+    while i < bytes.len() {
+        place = put_byte(list, place, bytes[i]);
+        i += 1;
+    }
+    place
+}
 
 // The names of up to three letters that are 0 or _.
 const NAMES: u32 = 14;

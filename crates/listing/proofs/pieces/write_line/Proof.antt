@@ -6,7 +6,7 @@ use Rattle.letters.specs.Letters.{byteOf}
 use Rattle.letters.specs.Words.{Word, bytesOf}
 use Rattle.model.specs.Lists.{nthOf}
 use Rattle.rows.specs.Words.{words}
-use Rattle.listing.proofs.Buffers.{overlaid-long}
+use Rattle.printing.proofs.Buffers.{overlaid-long}
 use Rattle.listing.proofs.Lines.{line-written, line-not-written}
 use Rattle.listing.proofs.pieces.write_line.Statement.{statement}
 use Rattle.listing.proofs.pieces.write_line.Tie as tie

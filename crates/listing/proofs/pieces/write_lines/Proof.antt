@@ -10,7 +10,7 @@ use lib.Seq.{getD-drop}
 use Rattle.model.specs.Lists.{nthOf}
 use Rattle.sets.specs.Sets.{Words}
 use Rattle.rows.specs.Words.{words}
-use Rattle.listing.proofs.Buffers.{back}
+use Rattle.printing.proofs.Buffers.{back}
 use Rattle.listing.proofs.Lines.{SoFar, none-yet, one-more, no-more, all-done}
 use Rattle.listing.proofs.Steps.{listable-exact}
 use Rattle.counting.proofs.Ahead.{count-inside}

@@ -1,13 +1,14 @@
 -- Bytes that are written to the front of a buffer. What a loop has written is said by two facts: the first bytes are these, and the others
--- are those of before. A buffer that is lent from some byte on comes back with more written behind those. Assumes nothing.
-use Prim.Native.Nat.{ℕ, _+_, _-_, _≤_, _<_}
+-- are those of before. A buffer that is lent from some byte on comes back with more written behind those. What is written one after another,
+-- byte by byte or part by part, is written as one. Assumes nothing.
+use Prim.Native.Nat.{ℕ, suc, _+_, _-_, _≤_, _<_}
 use native.Mathlib.Nat.{add-zero}
 use native.Mathlib.Numerals.{add-one}
 use native.Mathlib.Omega.{arith}
 use mathlib.Core.Path.{_≡_, refl, sym, _∙_}
 use mathlib.Core.List.{List, [], _∷_, _++_, append-assoc, append-nil}
 use lib.ListN.{length, take, drop, set, length-append, length-drop, length-set, length-take, take-append-drop, drop-of-length-le}
-use lib.Seq.{take-all, take-at, drop-at, drop-drop, drop-set-lt, take-suc-set, length-take-le}
+use lib.Seq.{take-all, take-at, drop-at, drop-append-add, drop-cons, drop-drop, drop-set-lt, set-at, take-suc-set, length-take-le}
 use Rattle.model.specs.Call.{overlaid}
 
 -- a buffer of which the first i bytes may have been written, and no others
@@ -36,15 +37,8 @@ take-more i l b h = rw add-one (take-suc-set l i b h)
 pub front-overlaid : {i : ℕ} {before after w : List ℕ} → Front i before after → take i after ≡ w → length w ≡ i → after ≡ overlaid w before
 front-overlaid {i} {before} {after} {w} f e long = sym (take-append-drop i after) ∙ rw (e, f .rest, long)
 
-length-overlaid : (w buffer : List ℕ) → length w ≤ length buffer → length (overlaid w buffer) ≡ length buffer
-length-overlaid w buffer fits = simp (length-append, length-drop) (omega arith)
-
 pub overlaid-long : (w buffer : List ℕ) → length w ≤ length (overlaid w buffer)
 overlaid-long w buffer = simp length-append (omega arith)
-
-pub overlaid-front : (i : ℕ) (w buffer : List ℕ) → length w ≡ i → i ≤ length buffer → Front i buffer (overlaid w buffer)
-overlaid-front i w buffer long fits =
-    record { long = length-overlaid w buffer (omega arith); rest = drop-at w (drop (length w) buffer) i long ∙ rw long }
 
 pub overlaid-take : (i : ℕ) (w buffer : List ℕ) → length w ≡ i → take i (overlaid w buffer) ≡ w
 overlaid-take i w buffer long = take-at w (drop (length w) buffer) i long
@@ -87,3 +81,33 @@ module _ {a : ℕ} {before after : List ℕ} (w : List ℕ) (f : Front a before 
 
   pub take-lent : take (a + length w) ((take a after ++ w) ++ drop (a + length w) after) ≡ take a after ++ w
   take-lent = take-at (take a after ++ w) _ (a + length w) length-joined
+
+-- w, of i bytes, was written to the front of the buffer and nothing behind it; then one more byte, or a part that was lent for it
+pub record Wrote (i : ℕ) (w before after : List ℕ) : Type 0 where
+  pub long : i ≡ length w
+  pub buffer : after ≡ overlaid w before
+
+pub overlaid-wrote : (w before : List ℕ) {i : ℕ} {after : List ℕ} → (i ≡ length w) × (after ≡ overlaid w before) → Wrote i w before after
+overlaid-wrote w before (l, b) = record { long = l; buffer = b }
+
+pub wrote-none : (buffer : List ℕ) → Wrote 0 [] buffer buffer
+wrote-none buffer = record { long = refl; buffer = refl }
+
+pub wrote-byte : {i : ℕ} {w before after : List ℕ} (b : ℕ) → Wrote i w before after → i < length before
+    → Wrote (i + 1) (w ++ b ∷ []) before (set after i b)
+wrote-byte {i} {w} {before} {after} b p inside =
+    let long : length w ≡ i = sym (p .long) in
+    let whole : length (w ++ b ∷ []) ≡ suc i = rw (length-append, long, add-one) in
+    record {
+      long = rw (whole, add-one);
+      buffer = rw (p .buffer, long, drop-cons before i 0 inside, set-at w _ _ b i long, whole, append-assoc);
+    }
+
+pub wrote-part : {a k : ℕ} {w x before after part : List ℕ} → Wrote a w before after → Wrote k x (lent a after) part
+    → Wrote (a + k) (w ++ x) before (back a after part)
+wrote-part {a} {k} {w} {x} {before} {after} {part} p q =
+    let long : length w ≡ a = sym (p .long) in
+    record {
+      long = rw (length-append, p .long, q .long);
+      buffer = rw (q .buffer, lent-back a x after, p .buffer, overlaid-take a w before long, ← long, drop-append-add w, drop-drop, length-append);
+    }

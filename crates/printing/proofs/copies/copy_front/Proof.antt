@@ -7,9 +7,9 @@ use mathlib.Core.Path.{_≡_}
 use borrow.Author.Needs.{needs}
 use lib.ListN.{length, take}
 use lib.Seq.{take-suc, length-take-le}
-use Rattle.listing.proofs.Buffers.{Front, front-none, front-more, take-more, front-overlaid}
-use Rattle.listing.proofs.pieces.copy_front.Statement.{statement}
-use Rattle.listing.proofs.pieces.copy_front.Tie as tie
+use Rattle.printing.proofs.Buffers.{Front, front-none, front-more, take-more, front-overlaid}
+use Rattle.printing.proofs.copies.copy_front.Statement.{statement}
+use Rattle.printing.proofs.copies.copy_front.Tie as tie
 
 abbrev Inv-loop : tie.InvT-loop
 Inv-loop from n out₀ i₀ out i = (i ≤ n) × Front i out₀ out × (take i out ≡ take i from)

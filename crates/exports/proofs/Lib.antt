@@ -1,0 +1,2 @@
+-- What the C boundary is worth to a host. Assumes nothing.
+pub mod Tight

@@ -1,0 +1,2 @@
+-- What the functions of include/book.h return. Assumes nothing.
+pub mod Packed

@@ -1,0 +1,137 @@
+// The C boundary, for script hosts, tests and benchmarks: the thirteen calls under the names of
+// include/book.h. Each does one call and packs its reply into one number.
+use answers::Answer;
+use answers::Asked;
+use answers::next_reply;
+use answers::refusal_number;
+ghost use Prim.Native.Nat.{_<_};
+ghost use mathlib.Core.Path.{_≡_};
+ghost use Rattle.answers.specs.Replies.{answerReply, askReply};
+ghost use Rattle.model.specs.Call.Call.{empty, check, ask, add, remove, clear, load, combine, count, rank, used};
+ghost use Rattle.exports.specs.Packed.{radix, packed, Packs, PacksNext, PacksNth};
+
+// 2 to the power 32.
+const RADIX: u64 = 4294967296;
+
+// "Each call answers a number and a value": both in one number.
+fn packed(number: u32, value: u32) -> u64
+    ensures { λ r. ⌜ r ≡ packed number value ⌝ }
+{
+    number as u64 * RADIX + value as u64
+}
+
+fn packed_answer(a: Answer) -> u64
+    ensures packs { λ r. ⌜ r ≡ packed (answerReply a .number) (answerReply a .value) ⌝ }
+    ensures small { λ _. ⌜ answerReply a .value < radix ⌝ }
+{
+    match a {
+        Answer::Done(value) => packed(0, value),
+        Answer::Refused(r) => packed(refusal_number(r), 0),
+    }
+}
+
+fn packed_ask(a: Asked) -> u64
+    ensures packs { λ r. ⌜ r ≡ packed (askReply a .number) (askReply a .value) ⌝ }
+    ensures small { λ _. ⌜ askReply a .value < radix ⌝ }
+{
+    match a {
+        Asked::OnList => packed(0, 1),
+        Asked::NotOnList => packed(0, 0),
+        Asked::Refused(r) => packed(refusal_number(r), 0),
+    }
+}
+
+#[no_mangle]
+pub extern "C" fn book_empty(table: &mut [u16]) -> u64
+    ensures { λ r. ⌜ Packs (now (table .entry)) (now (table .exit)) empty r ⌝ }
+{
+    packed_answer(calls::empty(table))
+}
+
+#[no_mangle]
+pub extern "C" fn book_check(table: &[u16]) -> u64
+    ensures { λ r. ⌜ Packs (now (table .entry)) (now (table .entry)) check r ⌝ }
+{
+    packed_answer(calls::check(table))
+}
+
+#[no_mangle]
+pub extern "C" fn book_ask(table: &[u16], mission: u32, name: &[u8]) -> u64
+    ensures { λ r. ⌜ Packs (now (table .entry)) (now (table .entry)) (ask mission (now (name .entry))) r ⌝ }
+{
+    packed_ask(calls::ask(table, mission, name))
+}
+
+// "The number of letters that may follow is also answered": here it is the value, and the letters go
+// to a number of the caller's.
+#[no_mangle]
+pub extern "C" fn book_next(table: &[u16], mission: u32, prefix: &[u8], letters: &mut u64) -> u64
+    ensures { λ r. ⌜ PacksNext (now (table .entry)) mission (now (prefix .entry)) (now (letters .exit)) r ⌝ }
+{
+    let reply = next_reply(calls::next(table, mission, prefix));
+    *letters = reply.value;
+    packed(reply.number, reply.second)
+}
+
+#[no_mangle]
+pub extern "C" fn book_add(table: &mut [u16], mission: u32, name: &[u8]) -> u64
+    ensures { λ r. ⌜ Packs (now (table .entry)) (now (table .exit)) (add mission (now (name .entry))) r ⌝ }
+{
+    packed_answer(changing::add(table, mission, name))
+}
+
+#[no_mangle]
+pub extern "C" fn book_remove(table: &mut [u16], mission: u32, name: &[u8]) -> u64
+    ensures { λ r. ⌜ Packs (now (table .entry)) (now (table .exit)) (remove mission (now (name .entry))) r ⌝ }
+{
+    packed_answer(changing::remove(table, mission, name))
+}
+
+#[no_mangle]
+pub extern "C" fn book_clear(table: &mut [u16], mission: u32) -> u64
+    ensures { λ r. ⌜ Packs (now (table .entry)) (now (table .exit)) (clear mission) r ⌝ }
+{
+    packed_answer(changing::clear(table, mission))
+}
+
+#[no_mangle]
+pub extern "C" fn book_load(table: &mut [u16], mission: u32, list: &[u8]) -> u64
+    ensures { λ r. ⌜ Packs (now (table .entry)) (now (table .exit)) (load mission (now (list .entry))) r ⌝ }
+{
+    packed_answer(filling::load(table, mission, list))
+}
+
+#[no_mangle]
+pub extern "C" fn book_combine(table: &mut [u16], operation: u32, a: u32, b: u32, c: u32) -> u64
+    ensures { λ r. ⌜ Packs (now (table .entry)) (now (table .exit)) (combine operation a b c) r ⌝ }
+{
+    packed_answer(filling::combine(table, operation, a, b, c))
+}
+
+#[no_mangle]
+pub extern "C" fn book_count(table: &[u16], mission: u32) -> u64
+    ensures { λ r. ⌜ Packs (now (table .entry)) (now (table .entry)) (count mission) r ⌝ }
+{
+    packed_answer(calls::count(table, mission))
+}
+
+#[no_mangle]
+pub extern "C" fn book_rank(table: &[u16], mission: u32, name: &[u8]) -> u64
+    ensures { λ r. ⌜ Packs (now (table .entry)) (now (table .entry)) (rank mission (now (name .entry))) r ⌝ }
+{
+    packed_answer(calls::rank(table, mission, name))
+}
+
+#[no_mangle]
+pub extern "C" fn book_nth(table: &[u16], mission: u32, n: u32, buffer: &mut [u8]) -> u64
+    ensures { λ r. ⌜ PacksNth (now (table .entry)) mission n (now (buffer .entry)) (now (buffer .exit)) r ⌝ }
+{
+    packed_answer(calls::nth(table, mission, n, buffer))
+}
+
+#[no_mangle]
+pub extern "C" fn book_used(table: &[u16]) -> u64
+    ensures { λ r. ⌜ Packs (now (table .entry)) (now (table .entry)) used r ⌝ }
+{
+    packed_answer(calls::used(table))
+}

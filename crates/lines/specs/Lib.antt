@@ -1,0 +1,5 @@
+-- "The desk program": what a line asks for, what is said to it, and what is printed for a whole input. Assumes nothing.
+pub mod Requests
+pub mod Promises
+pub mod Sessions
+pub mod Listing

@@ -1,0 +1,9 @@
+// Printing: what is written to the front of a lent buffer, as bytes. Who has more to write lends the
+// rest of the buffer on.
+mod answers;
+mod copies;
+mod numbers;
+
+pub use answers::put_answer;
+pub use answers::put_other;
+pub use copies::copy_front;
