@@ -5,8 +5,10 @@ use counting::MOST;
 use letters::name_end;
 use libc::STDIN_FILENO;
 use libc::STDOUT_FILENO;
+use lines::SPARE;
 use lines::follow;
 use lines::reply;
+use rows::WIDTH;
 ghost use Prim.Native.Nat.{_≤_};
 ghost use lib.ListN.{length};
 ghost use Rattle.lines.specs.Sessions.{mostInput};
@@ -14,13 +16,15 @@ ghost use Rattle.lines.specs.Sessions.{mostInput};
 // "at most 8,192 bytes": one byte more tells that there are more.
 const MOST_INPUT: usize = 8192;
 
-const INPUT: usize = 8193;
+const INPUT: usize = MOST_INPUT + 1;
 
-// "a book of room 486": 26 rows more, of forty numbers each.
-const NUMBERS: usize = 20480;
+// "a book of room 486", and the 26 rows beside the room.
+const ROWS: usize = 512;
+
+const NUMBERS: usize = ROWS * WIDTH;
 
 // The longest line and what its answer has beside it.
-const ANSWER: usize = 8235;
+const ANSWER: usize = MOST_INPUT + SPARE;
 
 // "After `L` with number 0 the names follow in order, one per line": piece by piece, each going on where
 // the one before it ended.

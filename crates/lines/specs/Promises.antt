@@ -32,7 +32,7 @@ abbrev pub Answered : Table → Table → List ℕ → ℕ → List ℕ → List
 Answered t after line n before filled k =
     (text : List ℕ) × Said t after line n (requestOf line) text × (k ≡ length text) × (filled ≡ overlaid text before)
 
--- where the buffer is too short for every answer to the line, nothing is done
+-- where the buffer may be too short for the answer to the line, nothing is done
 pub record Replies (t after : Table) (line : List ℕ) (n : ℕ) (before filled : List ℕ) (k : ℕ) : Type 0 where
   pub answered : length line + spare ≤ length before → Answered t after line n before filled k
   pub refused : length before < length line + spare → (k ≡ 0) × (filled ≡ before) × (after ≡ t)

@@ -14,6 +14,13 @@ use Rattle.lines.specs.declared.requests.Kind.the-variants.{Add, Remove,
 use Rattle.lines.specs.declared.requests.Request.{Request}
 use Rattle.lines.specs.declared.requests.Request.the-variants as request
 
+-- how many bytes of a line stand before its name: the kind, a space and two digits, and one space more before a name
+abbrev pub headLength : ℕ
+headLength = 4
+
+abbrev pub nameStart : ℕ
+nameStart = 5
+
 -- the byte at a place of the line
 abbrev pub byte : List ℕ → ℕ → ℕ
 byte line i = getD line i 0
@@ -23,18 +30,18 @@ isDigit b = within 0x30 0x39 b
 
 -- behind its first byte: "a space, two decimal digits for the mission"
 abbrev pub isHeaded : List ℕ → Bool
-isHeaded line = leb 4 (length line) && (eqb (byte line 1) space && (isDigit (byte line 2) && isDigit (byte line 3)))
+isHeaded line = leb headLength (length line) && (eqb (byte line 1) space && (isDigit (byte line 2) && isDigit (byte line 3)))
 
 abbrev pub missionOf : List ℕ → ℕ
 missionOf line = (byte line 2 - 0x30) * 10 + (byte line 3 - 0x30)
 
 -- "the name, which is the rest of the line"
 abbrev pub nameOf : List ℕ → List ℕ
-nameOf line = drop 5 line
+nameOf line = drop nameStart line
 
 -- "a space and then the name, which is the rest of the line, has no space in it and may be of no bytes"
 abbrev pub hasName : List ℕ → Bool
-hasName line = leb 5 (length line) && (eqb (byte line 4) space && not (some (λ b. eqb b space) (nameOf line)))
+hasName line = leb nameStart (length line) && (eqb (byte line headLength) space && not (some (λ b. eqb b space) (nameOf line)))
 
 -- a request, if the line is of its form
 abbrev pub requestIf : Bool → Kind → List ℕ → Request
@@ -48,7 +55,7 @@ requestOf line =
     (cond (eqb (byte line 0) 0x2B) (requestIf (hasName line) Add line)
     (cond (eqb (byte line 0) 0x2D) (requestIf (hasName line) Remove line)
     (cond (eqb (byte line 0) 0x3F) (requestIf (hasName line) Ask line)
-    (cond (eqb (byte line 0) 0x4C) (requestIf (eqb (length line) 4) Count line)
+    (cond (eqb (byte line 0) 0x4C) (requestIf (eqb (length line) headLength) Count line)
     request.Other))))
     request.Other
 

@@ -3,5 +3,6 @@
 mod replies;
 mod requests;
 
+pub use replies::SPARE;
 pub use replies::follow;
 pub use replies::reply;

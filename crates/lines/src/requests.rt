@@ -1,10 +1,16 @@
 // What a line asks for.
+use printing::SPACE;
 ghost use mathlib.Core.Path.{_≡_};
 ghost use mathlib.Core.Bool.{true};
 ghost use lib.Dec.{eqb};
 ghost use Rattle.letters.specs.Each.{some};
 ghost use Rattle.printing.specs.Printed.{space};
 ghost use Rattle.lines.specs.Requests.{isDigit, isHeaded, missionOf, nameOf, hasName, requestIf, requestOf};
+
+// The bytes of a line before its name: the kind, a space and two digits, and one space more before a name.
+const HEAD: usize = 4;
+
+const NAME: usize = 5;
 
 // "They mean add, remove, ask and count."
 pub enum Kind {
@@ -31,7 +37,7 @@ fn has_space(s: &[u8]) -> bool
 {
     let mut i = 0;
     while i < s.len() {
-        if s[i] == b' ' {
+        if s[i] == SPACE {
             return true;
         }
         i += 1;
@@ -43,10 +49,10 @@ fn has_space(s: &[u8]) -> bool
 fn is_headed(line: &[u8]) -> bool
     ensures { λ r. ⌜ r ≡ isHeaded (now (line .entry)) ⌝ }
 {
-    if line.len() < 4 {
+    if line.len() < HEAD {
         return false;
     }
-    (line[1] == b' ') & is_digit(line[2]) & is_digit(line[3])
+    (line[1] == SPACE) & is_digit(line[2]) & is_digit(line[3])
 }
 
 fn mission_of(line: &[u8]) -> u32
@@ -60,10 +66,10 @@ fn mission_of(line: &[u8]) -> u32
 pub fn name_of(line: &[u8]) -> &[u8]
     ensures { λ r. ⌜ now r ≡ nameOf (now (line .entry)) ⌝ }
 {
-    if line.len() < 5 {
+    if line.len() < NAME {
         return &line[0..0];
     }
-    &line[5..]
+    &line[NAME..]
 }
 
 // "a space and then the name, which is the rest of the line, has no space in it and may be of no
@@ -71,10 +77,10 @@ pub fn name_of(line: &[u8]) -> &[u8]
 fn has_name(line: &[u8]) -> bool
     ensures { λ r. ⌜ r ≡ hasName (now (line .entry)) ⌝ }
 {
-    if line.len() < 5 {
+    if line.len() < NAME {
         return false;
     }
-    (line[4] == b' ') & !has_space(name_of(line))
+    (line[HEAD] == SPACE) & !has_space(name_of(line))
 }
 
 fn request_if(fine: bool, kind: Kind, line: &[u8]) -> Request
@@ -101,7 +107,7 @@ pub fn request_of(line: &[u8]) -> Request
         b'+' => request_if(has_name(line), Kind::Add, line),
         b'-' => request_if(has_name(line), Kind::Remove, line),
         b'?' => request_if(has_name(line), Kind::Ask, line),
-        b'L' => request_if(line.len() == 4, Kind::Count, line),
+        b'L' => request_if(line.len() == HEAD, Kind::Count, line),
         _ => Request::Other,
     }
 }

@@ -8,7 +8,7 @@ ghost use lib.ListN.{length};
 ghost use Rattle.model.specs.Call.{overlaid};
 ghost use Rattle.printing.specs.Printed.{spare, field, answerLine, otherLine};
 
-const SPACE: u8 = b' ';
+pub const SPACE: u8 = b' ';
 
 // Writes a space and the number to the front of the buffer, and says how many bytes they are.
 fn put_field(n: u64, out: &mut [u8]) -> usize

@@ -2,6 +2,7 @@
 use mathlib.Core.Bool.{and-assoc}
 use borrow.Author.Needs.{needs}
 use borrow.Author.Tests.{le-leb, lt-leb}
+use Rattle.lines.specs.Requests.{headLength}
 use Rattle.lines.proofs.requests.is_headed.Statement.{statement}
 use Rattle.lines.proofs.requests.is_headed.Tie as tie
 
@@ -26,7 +27,7 @@ is-digit-requires-2 c κs = search needs
 returns-2 : tie.Need-returns-2
 returns-2 c =
     let at-test = c .before .before .before .before .before in
-    simp (le-leb 4 _ (at-test .if1 .left), c .before .before .is-digit .ensures, c .is-digit2 .ensures, and-assoc)
+    simp (le-leb headLength _ (at-test .if1 .left), c .before .before .is-digit .ensures, c .is-digit2 .ensures, and-assoc)
 
 pub is-headed-spec : {M : Type 1} → statement M
 is-headed-spec =

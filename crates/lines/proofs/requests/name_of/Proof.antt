@@ -1,5 +1,5 @@
--- `name_of` meets its promise: the part from byte 5 to the end is what dropping five bytes leaves, and of fewer than five bytes that
--- leaves nothing. Assumes nothing.
+-- `name_of` meets its promise: the part behind the bytes before the name is what dropping them leaves, and of fewer bytes that leaves
+-- nothing. Assumes nothing.
 use Prim.Native.Nat.{ℕ, _-_, _<_}
 use mathlib.Core.Path.{_≡_, sym}
 use mathlib.Core.List.{List, []}
@@ -7,15 +7,15 @@ use native.Mathlib.Omega.{arith}
 use borrow.Author.Needs.{needs}
 use lib.ListN.{length, take, drop, length-drop, drop-of-length-le}
 use lib.Seq.{take-all}
-use Rattle.lines.specs.Requests.{nameOf}
+use Rattle.lines.specs.Requests.{nameStart, nameOf}
 use Rattle.lines.proofs.requests.name_of.Statement.{statement}
 use Rattle.lines.proofs.requests.name_of.Tie as tie
 
-short-nameless : (line : List ℕ) → length line < 5 → nameOf line ≡ []
-short-nameless line h = drop-of-length-le line {i = 5} (omega arith)
+short-nameless : (line : List ℕ) → length line < nameStart → nameOf line ≡ []
+short-nameless line h = drop-of-length-le line {i = nameStart} (omega arith)
 
-name-is-rest : (line : List ℕ) → take (length line - 5) (drop 5 line) ≡ nameOf line
-name-is-rest line = take-all (length line - 5) (drop 5 line) (simp length-drop (omega arith))
+name-is-rest : (line : List ℕ) → take (length line - nameStart) (drop nameStart line) ≡ nameOf line
+name-is-rest line = take-all (length line - nameStart) (drop nameStart line) (simp length-drop (omega arith))
 
 sub-result : tie.Need-sub-result
 sub-result c = search needs
