@@ -25,6 +25,7 @@ nameStart = 5
 abbrev pub byte : List ℕ → ℕ → ℕ
 byte line i = getD line i 0
 
+-- 0x30 is `0`, 0x39 is `9`
 abbrev pub isDigit : ℕ → Bool
 isDigit b = within 0x30 0x39 b
 
@@ -32,6 +33,7 @@ isDigit b = within 0x30 0x39 b
 abbrev pub isHeaded : List ℕ → Bool
 isHeaded line = leb headLength (length line) && (eqb (byte line 1) space && (isDigit (byte line 2) && isDigit (byte line 3)))
 
+-- the number that the two digits say
 abbrev pub missionOf : List ℕ → ℕ
 missionOf line = (byte line 2 - 0x30) * 10 + (byte line 3 - 0x30)
 
@@ -48,7 +50,7 @@ abbrev pub requestIf : Bool → Kind → List ℕ → Request
 requestIf fine kind line = cond fine (request.Call kind (missionOf line)) request.Other
 
 -- "A line is `+`, `-`, `?` or `L`, a space, two decimal digits for the mission and, but for `L`, a space and then the name". "They mean add,
--- remove, ask and count."
+-- remove, ask and count." 0x2B is `+`, 0x2D is `-`, 0x3F is `?`, 0x4C is `L`.
 unfoldable pub requestOf : List ℕ → Request
 requestOf line =
     cond (isHeaded line)

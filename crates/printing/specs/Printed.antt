@@ -15,7 +15,7 @@ field n = space ∷ decimal n
 abbrev pub answerLine : List ℕ → ℕ → ℕ → List ℕ
 answerLine line number value = line ++ field number ++ field value ++ lineEnd ∷ []
 
--- "For any other line it prints `! ` and the line's number from 1."
+-- "For any other line it prints `! ` and the line's number from 1." 0x21 is `!`.
 abbrev pub otherLine : ℕ → List ℕ
 otherLine n = 0x21 ∷ field n ++ lineEnd ∷ []
 
