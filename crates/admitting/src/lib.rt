@@ -4,3 +4,4 @@ mod admits;
 
 pub use admits::Admission;
 pub use admits::admit;
+pub use admits::admit_indexed;

@@ -1,10 +1,11 @@
 // "add and remove one name".
 use super::paths::path;
 use admitting::Admission;
-use admitting::admit;
+use admitting::admit_indexed;
 use answers::Answer;
 use answers::Refusal;
 use growing::Made;
+use index::INDEX;
 use letters::is_name;
 use rows::start;
 use settling::settle;
@@ -17,6 +18,7 @@ ghost use Rattle.sets.specs.Sets.{member};
 ghost use Rattle.model.specs.Lists.{listOf};
 ghost use Rattle.model.specs.Call.Call.{add, remove};
 ghost use Rattle.rows.specs.Words.{lists};
+ghost use Rattle.index.specs.Index.{Indexed};
 ghost use Rattle.changing.specs.Promises.{setCall, settledAnswer, Settable, Changes};
 
 // The answer to a change that was settled.
@@ -32,35 +34,36 @@ pub fn settled(done: bool, value: u32) -> Answer
 
 // On a sound book, a name that is not yet as wanted. The path is never full: it makes at most 25
 // rows, and as many are free above the room.
-fn change_name(t: &mut [u16], m: usize, name: &[u8], on: bool) -> Answer
-    requires { ⌜ Settable (now t) m (now name) × (member (wordOf (now name)) (listOf (lists (now t)) m) ≡ not on) ⌝ }
+fn change_name(t: &mut [u16], index: &mut [u16], m: usize, name: &[u8], on: bool) -> Answer
+    requires { ⌜ Settable (now t) m (now name) × Indexed (now t) (now index) × (member (wordOf (now name)) (listOf (lists (now t)) m) ≡ not on) ⌝ }
     ensures { λ a. ⌜ Changes (now (t .entry)) (now (t .exit)) (setCall on m (now (name .entry))) a ⌝ }
 {
     let r = start(t, m);
-    match path(t, r, name, on) {
+    match path(t, index, r, name, on) {
         Made::Row(n) => settled(settle(t, m, n), 1),
         Made::Full => Answer::Refused(Refusal::NoRoom),
     }
 }
 
 // On a sound book.
-fn set_name(t: &mut [u16], m: usize, name: &[u8], on: bool) -> Answer
-    requires { ⌜ Settable (now t) m (now name) ⌝ }
+fn set_name(t: &mut [u16], index: &mut [u16], m: usize, name: &[u8], on: bool) -> Answer
+    requires { ⌜ Settable (now t) m (now name) × Indexed (now t) (now index) ⌝ }
     ensures { λ a. ⌜ Changes (now (t .entry)) (now (t .exit)) (setCall on m (now (name .entry))) a ⌝ }
 {
     let r = walk_list(t, m, name);
     if ends(t, r) == on {
         return Answer::Done(0);
     }
-    change_name(t, m, name, on)
+    change_name(t, index, m, name, on)
 }
 
 // add and remove are one call with a wanted state.
 fn set(t: &mut [u16], m: u32, name: &[u8], on: bool) -> Answer
     ensures { λ a. ⌜ Changes (now (t .entry)) (now (t .exit)) (setCall on m (now (name .entry))) a ⌝ }
 {
-    match admit(t, m, is_name(name), Refusal::Name) {
-        Admission::Admitted => set_name(t, m as usize, name, on),
+    let mut index = [0u16; INDEX];
+    match admit_indexed(t, m, is_name(name), Refusal::Name, &mut index) {
+        Admission::Admitted => set_name(t, &mut index, m as usize, name, on),
         Admission::Refused(r) => Answer::Refused(r),
     }
 }

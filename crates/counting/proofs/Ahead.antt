@@ -1,8 +1,8 @@
 -- The words of a row are the empty word, where a name may end there, and letter by letter those of the targets behind their letter. So their
 -- number, how many of them stand before a word, and the n-th of them go letter by letter: those that begin with a lower letter all stand
--- before, those that begin with a higher one do not. Where the words of the row are no more than the array counts, its numbers are exact.
--- Assumes nothing.
-use Prim.Native.Nat.{ℕ, zero, suc, _+_, _≤_, _<_}
+-- before, those that begin with a higher one do not, and the letters without a target may be skipped. Where the words of the row are no more
+-- than the array counts, its numbers are exact. Assumes nothing.
+use Prim.Native.Nat.{ℕ, zero, suc, _+_, _≤_, _<_, min}
 use native.Mathlib.Omega.{arith}
 use mathlib.Core.Path.{_≡_, refl, _∙_}
 use mathlib.Core.Bool.{Bool, true, false, cond}
@@ -24,7 +24,8 @@ use Rattle.rows.specs.Table.{Table, target, ends}
 use Rattle.rows.specs.Walk.{hasArc}
 use Rattle.rows.specs.Words.{behind, words}
 use Rattle.rows.specs.Tidy.{Used, Named, Tidy}
-use Rattle.rows.proofs.Facts.{used-row, named-inside, target-named}
+use Rattle.rows.specs.Skips.{Arcless}
+use Rattle.rows.proofs.Facts.{no-row, used-row, named-inside, target-named}
 use Rattle.rows.proofs.Words.{words-row, words-none}
 use Rattle.counting.specs.Ahead.{aheadBy, ahead}
 use Rattle.counting.specs.Counts.{countAt, Counts}
@@ -82,6 +83,17 @@ nth-behind x [] n h = absurd (omega arith)
 nth-behind x (w ∷ l) zero h = refl
 nth-behind x (w ∷ l) (suc n) h = nth-behind x l n (omega arith)
 
+module _ (given : ℕ → ℕ) (none : given 0 ≡ 0) {t : Table} {r : ℕ} where
+  -- as far as letter x, the letters without a target add nothing
+  pub ahead-skip : {y e : ℕ} → Arcless t r y e → (x : ℕ) → y ≤ x → aheadBy given t r (min e x) ≡ aheadBy given t r y
+  ahead-skip {y} {e} a x h =
+      rw (total-skip (λ z. given (target t r z)) y (min e x) (omega arith) (λ z low below. rw (a .none z low (omega arith)) none))
+
+  pub ahead-more : {y e : ℕ} → Arcless t r (suc y) e → (x : ℕ) → y < x
+      → aheadBy given t r (min e x) ≡ aheadBy given t r (min y x) + given (target t r y)
+  unfolding total
+  ahead-more {y} a x h = let low : min y x ≡ y = omega arith in ahead-skip a x h ∙ rw low (omega arith)
+
 module _ (t : Table) (tidy : Tidy t) (r : ℕ) (u : Used t r) where
   -- what the letter's target gives
   abbrev given : ℕ → Words
@@ -128,6 +140,9 @@ module _ (t : Table) (counts : List ℕ) (c : Counts t counts) where
   -- the array has a number for every row, and for 0
   pub count-inside : (n : ℕ) → Named t n → n < length counts
   count-inside n named = omega (arith, named-inside t (c .tidy) n named, c .long)
+
+  pub count-none : countAt counts 0 ≡ 0
+  count-none = c .counted 0 (λ some. absurd (omega arith)) ∙ rw (words-none t 0 (no-row t 0 refl))
 
   pub count-exact : (n : ℕ) → Named t n → length (words t n) ≤ most → countAt counts n ≡ length (words t n)
   count-exact n named few = omega (arith, c .counted n named)

@@ -1,5 +1,5 @@
 -- An array with the number of words from each row. It is filled by rising height. Assumes nothing.
-use Prim.Native.Nat.{ℕ, _+_, _*_, _≤_, _<_}
+use Prim.Native.Nat.{ℕ, _+_, _*_, _-_, _≤_, _<_}
 use mathlib.Core.Path.{_≡_}
 use mathlib.Core.List.{List}
 use lib.ListN.{length, getD}
@@ -12,9 +12,9 @@ use Rattle.rows.specs.Tidy.{Used, Named, Tidy}
 abbrev pub countAt : List ℕ → ℕ → ℕ
 countAt counts n = getD counts n 0
 
--- the rows in the order in which they are counted: by rising height, and those of one height by rising number
+-- the rows in the order in which they are counted: by rising height, and those of one height by falling number
 abbrev pub turn : ℕ → ℕ → ℕ
-turn height r = height * mostRows + r
+turn height r = height * mostRows + (mostRows - r)
 
 -- in a tidy table, the rows whose turn comes before this one are counted; 0 is no row and has no words
 pub record CountedTo (t : Table) (end : ℕ) (counts : List ℕ) : Type 0 where

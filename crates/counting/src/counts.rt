@@ -1,9 +1,11 @@
 // The number of words from each row.
+use chains::ORDER;
+use chains::last_at;
+use chains::order_rows;
+use chains::row_before;
 use letters::LETTERS;
 use letters::LONGEST;
-use rows::height;
-use rows::in_use;
-use rows::row_count;
+use rows::next_arc;
 use rows::start;
 use rows::target;
 use walking::ends;
@@ -12,11 +14,13 @@ ghost use mathlib.Core.Path.{_≡_};
 ghost use lib.ListN.{length};
 ghost use Rattle.letters.specs.Letters.{letters};
 ghost use Rattle.letters.specs.LetterSet.{flag};
+ghost use Rattle.letters.specs.Names.{longest};
 ghost use Rattle.sets.specs.Cut.{cut};
 ghost use Rattle.model.specs.Lists.{missions};
-ghost use Rattle.rows.specs.Table.{rowCount, target, ends};
+ghost use Rattle.rows.specs.Table.{rowCount, mostRows, height, target, ends};
 ghost use Rattle.rows.specs.Words.{names};
 ghost use Rattle.rows.specs.Tidy.{Used, Tidy};
+ghost use Rattle.chains.specs.Orders.{Ordered};
 ghost use Rattle.counting.specs.Ahead.{aheadBy};
 ghost use Rattle.counting.specs.Counts.{countAt, turn, CountedTo, Counts};
 
@@ -47,16 +51,17 @@ fn ends_count(t: &[u16], r: usize) -> u32
     if ends(t, r) { 1 } else { 0 }
 }
 
-// How many words of the row stand before those that begin with letter x, by the array.
+// How many words of the row stand before those that begin with letter x, by the array. A letter without
+// a target adds the array's number for 0, which is 0, and so is skipped.
 pub fn words_ahead(t: &[u16], r: usize, x: usize, counts: &[u16]) -> u32
-    requires { ⌜ Tidy (now t) × Used (now t) r × (x ≤ letters) × (rowCount (now t) ≤ length (now counts)) ⌝ }
+    requires { ⌜ Tidy (now t) × Used (now t) r × (x ≤ letters) × (rowCount (now t) ≤ length (now counts)) × (countAt (now counts) 0 ≡ 0) ⌝ }
     ensures { λ n. ⌜ n ≡ aheadBy (λ s. countAt (now (counts .entry)) s) (now (t .entry)) r x ⌝ }
 {
     let mut n = ends_count(t, r);
-    let mut y = 0;
+    let mut y = next_arc(t, r, 0);
     while y < x {
         n += target_count(t, r, y, counts);
-        y += 1;
+        y = next_arc(t, r, y + 1);
     }
     n
 }
@@ -68,31 +73,37 @@ fn cut(n: u32) -> u16
     if n <= MOST as u32 { n as u16 } else { MOST + 1 }
 }
 
-// Counts the row if it is in use and of this height: its targets are lower, and so counted before.
-fn count_row(t: &[u16], h: usize, r: usize, counts: &mut [u16])
-    requires { ⌜ CountedTo (now t) (turn h r) (now counts) × (r < rowCount (now t)) ⌝ }
-    ensures { λ _. ⌜ CountedTo (now (t .entry)) (turn h (suc r)) (now (counts .exit)) ⌝ }
+// Counts the row: its targets are lower, and so counted before.
+fn count_row(t: &[u16], r: usize, counts: &mut [u16])
+    requires { ⌜ Used (now t) r × CountedTo (now t) (turn (height (now t) r) r) (now counts) ⌝ }
+    ensures { λ _. ⌜ CountedTo (now (t .entry)) (suc (turn (height (now (t .entry)) r) r)) (now (counts .exit)) ⌝ }
 {
-    if !in_use(t, r) {
-        return;
-    }
-    if height(t, r) as usize != h {
-        return;
-    }
     let n = words_ahead(t, r, LETTERS, counts);
     counts[r] = cut(n);
 }
 
 // Counts the rows of one height.
-fn count_height(t: &[u16], h: usize, counts: &mut [u16])
-    requires { ⌜ CountedTo (now t) (turn h 0) (now counts) ⌝ }
-    ensures { λ _. ⌜ CountedTo (now (t .entry)) (turn (suc h) 0) (now (counts .exit)) ⌝ }
+fn count_height(t: &[u16], h: usize, order: &[u16], counts: &mut [u16])
+    requires { ⌜ CountedTo (now t) (turn h mostRows) (now counts) × (h ≤ longest) × Ordered (now t) (now order) ⌝ }
+    ensures { λ _. ⌜ CountedTo (now (t .entry)) (turn (suc h) mostRows) (now (counts .exit)) ⌝ }
 {
-    let k = row_count(t);
-    let mut r = 0;
-    while r < k {
-        count_row(t, h, r, counts);
-        r += 1;
+    let mut r = last_at(order, h);
+    while r != 0 {
+        count_row(t, r, counts);
+        r = row_before(order, r);
+    }
+}
+
+// Counts all rows, height by height.
+fn count_heights(t: &[u16], order: &[u16], counts: &mut [u16])
+    requires { ⌜ Tidy (now t) × (rowCount (now t) ≤ length (now counts)) × Ordered (now t) (now order) ⌝ }
+    ensures { λ _. ⌜ Counts (now (t .entry)) (now (counts .exit)) ⌝ }
+{
+    counts[0] = 0;
+    let mut h = 0;
+    while h <= LONGEST {
+        count_height(t, h, order, counts);
+        h += 1;
     }
 }
 
@@ -101,12 +112,9 @@ fn count_words(t: &[u16], counts: &mut [u16])
     requires { ⌜ Tidy (now t) × (rowCount (now t) ≤ length (now counts)) ⌝ }
     ensures { λ _. ⌜ Counts (now (t .entry)) (now (counts .exit)) ⌝ }
 {
-    counts[0] = 0;
-    let mut h = 0;
-    while h <= LONGEST {
-        count_height(t, h, counts);
-        h += 1;
-    }
+    let mut order = [0u16; ORDER];
+    order_rows(t, &mut order);
+    count_heights(t, &order, counts);
 }
 
 // Counts all rows, and says how many names the mission's list has, cut.

@@ -1,11 +1,12 @@
 // "combine the lists of missions a and b into the empty list of mission c".
 use super::rooms::no_room;
 use admitting::Admission;
-use admitting::admit;
+use admitting::admit_indexed;
 use answers::Answer;
 use answers::Refusal;
 use changing::settled;
 use growing::Made;
+use index::INDEX;
 use pairing::combine_rows;
 use rows::start;
 use settling::settle;
@@ -16,6 +17,7 @@ ghost use Rattle.letters.specs.LetterSet.{flag};
 ghost use Rattle.model.specs.Call.Call.{combine};
 ghost use Rattle.model.specs.Refusals.{isOperation};
 ghost use Rattle.rows.specs.Table.{start};
+ghost use Rattle.index.specs.Index.{Indexed};
 ghost use Rattle.changing.specs.Promises.{Changes};
 ghost use Rattle.filling.specs.Filling.{highest, Combinable};
 
@@ -27,27 +29,27 @@ fn has_names(r: u16) -> u32
 }
 
 // On a sound book, two lists into that of a mission that has none.
-fn fill_combined(t: &mut [u16], op: u32, a: usize, b: usize, c: usize) -> Answer
-    requires { ⌜ Combinable (now t) op a b c × (start (now t) c ≡ 0) ⌝ }
+fn fill_combined(t: &mut [u16], index: &mut [u16], op: u32, a: usize, b: usize, c: usize) -> Answer
+    requires { ⌜ Combinable (now t) op a b c × Indexed (now t) (now index) × (start (now t) c ≡ 0) ⌝ }
     ensures { λ answer. ⌜ Changes (now (t .entry)) (now (t .exit)) (combine op a b c) answer ⌝ }
 {
     let p = start(t, a);
     let q = start(t, b);
-    match combine_rows(t, op, p, q) {
+    match combine_rows(t, index, op, p, q) {
         Made::Row(r) => settled(settle(t, c, r), has_names(r)),
         Made::Full => no_room(t),
     }
 }
 
 // On a sound book: refusal 8, and the rest.
-fn combine_lists(t: &mut [u16], op: u32, a: usize, b: usize, c: usize) -> Answer
-    requires { ⌜ Combinable (now t) op a b c ⌝ }
+fn combine_lists(t: &mut [u16], index: &mut [u16], op: u32, a: usize, b: usize, c: usize) -> Answer
+    requires { ⌜ Combinable (now t) op a b c × Indexed (now t) (now index) ⌝ }
     ensures { λ answer. ⌜ Changes (now (t .entry)) (now (t .exit)) (combine op a b c) answer ⌝ }
 {
     if start(t, c) != 0 {
         return Answer::Refused(Refusal::NotEmpty);
     }
-    fill_combined(t, op, a, b, c)
+    fill_combined(t, index, op, a, b, c)
 }
 
 // "operation not 1, 2 or 3" is refused.
@@ -73,8 +75,15 @@ fn highest(a: u32, b: u32, c: u32) -> u32
 pub fn combine(t: &mut [u16], op: u32, a: u32, b: u32, c: u32) -> Answer
     ensures { λ answer. ⌜ Changes (now (t .entry)) (now (t .exit)) (combine op a b c) answer ⌝ }
 {
-    match admit(t, highest(a, b, c), is_operation(op), Refusal::Operation) {
-        Admission::Admitted => combine_lists(t, op, a as usize, b as usize, c as usize),
+    let mut index = [0u16; INDEX];
+    match admit_indexed(
+        t,
+        highest(a, b, c),
+        is_operation(op),
+        Refusal::Operation,
+        &mut index,
+    ) {
+        Admission::Admitted => combine_lists(t, &mut index, op, a as usize, b as usize, c as usize),
         Admission::Refused(r) => Answer::Refused(r),
     }
 }

@@ -1,12 +1,13 @@
 // "load a rising list of names into an empty list".
 use super::rooms::no_room;
 use admitting::Admission;
-use admitting::admit;
+use admitting::admit_indexed;
 use answers::Answer;
 use answers::Refusal;
 use building::build_list;
 use changing::settled;
 use growing::Made;
+use index::INDEX;
 use letters::is_list;
 use letters::name_count;
 use rows::start;
@@ -14,37 +15,39 @@ use settling::settle;
 ghost use mathlib.Core.Path.{_≡_};
 ghost use Rattle.model.specs.Call.Call.{load};
 ghost use Rattle.rows.specs.Table.{start};
+ghost use Rattle.index.specs.Index.{Indexed};
 ghost use Rattle.changing.specs.Promises.{Changes};
 ghost use Rattle.filling.specs.Filling.{Loadable};
 
 // On a sound book, a list for a mission that has none.
-fn fill_list(t: &mut [u16], m: usize, list: &[u8]) -> Answer
-    requires { ⌜ Loadable (now t) m (now list) × (start (now t) m ≡ 0) ⌝ }
+fn fill_list(t: &mut [u16], index: &mut [u16], m: usize, list: &[u8]) -> Answer
+    requires { ⌜ Loadable (now t) m (now list) × Indexed (now t) (now index) × (start (now t) m ≡ 0) ⌝ }
     ensures { λ a. ⌜ Changes (now (t .entry)) (now (t .exit)) (load m (now (list .entry))) a ⌝ }
 {
     let names = name_count(list) as u32;
-    match build_list(t, list) {
+    match build_list(t, index, list) {
         Made::Row(r) => settled(settle(t, m, r), names),
         Made::Full => no_room(t),
     }
 }
 
 // On a sound book: refusal 8, and the rest.
-fn load_list(t: &mut [u16], m: usize, list: &[u8]) -> Answer
-    requires { ⌜ Loadable (now t) m (now list) ⌝ }
+fn load_list(t: &mut [u16], index: &mut [u16], m: usize, list: &[u8]) -> Answer
+    requires { ⌜ Loadable (now t) m (now list) × Indexed (now t) (now index) ⌝ }
     ensures { λ a. ⌜ Changes (now (t .entry)) (now (t .exit)) (load m (now (list .entry))) a ⌝ }
 {
     if start(t, m) != 0 {
         return Answer::Refused(Refusal::NotEmpty);
     }
-    fill_list(t, m, list)
+    fill_list(t, index, m, list)
 }
 
 pub fn load(t: &mut [u16], m: u32, list: &[u8]) -> Answer
     ensures { λ a. ⌜ Changes (now (t .entry)) (now (t .exit)) (load m (now (list .entry))) a ⌝ }
 {
-    match admit(t, m, is_list(list), Refusal::List) {
-        Admission::Admitted => load_list(t, m as usize, list),
+    let mut index = [0u16; INDEX];
+    match admit_indexed(t, m, is_list(list), Refusal::List, &mut index) {
+        Admission::Admitted => load_list(t, &mut index, m as usize, list),
         Admission::Refused(r) => Answer::Refused(r),
     }
 }

@@ -6,11 +6,11 @@ use native.Mathlib.Omega.{arith}
 use native.Mathlib.Decide.{ℕ-discrete}
 use mathlib.Core.Path.{_≡_, refl, sym, _∙_}
 use mathlib.Core.Logic.{_⊎_, inl, inr}
-use mathlib.Core.Bool.{true, false, false≢true, and-eq-true-iff}
+use mathlib.Core.Bool.{true, and-eq-true-iff}
 use mathlib.Core.List.{List, [], _∷_, List·Memᴰ}
 use lib.Dec.{eqb}
 use lib.ListN.{length, getD}
-use borrow.Author.Tests.{eqb-true, eqb-false, eq-eqb, ne-eqb, lt-ltb}
+use borrow.Author.Tests.{eqb-true, eq-eqb, ne-eqb, lt-ltb}
 use Rattle.letters.specs.Letters.{letters}
 use Rattle.letters.specs.Names.{longest}
 use Rattle.letters.specs.Words.{Word, Spelled}
@@ -18,8 +18,7 @@ use Rattle.letters.specs.LetterSet.{countOf}
 use Rattle.letters.proofs.LetterSet.{count-but-one, count-positive}
 use Rattle.sets.specs.Sets.{Words, Filled, member}
 use Rattle.sets.specs.Residuals.{states}
-use Rattle.sets.proofs.Below.{tests-agree, all-below, below-all, below-greatest, greatest-least, greatest-some}
-use Rattle.sets.proofs.Loops.{first-some, first-zero}
+use Rattle.sets.proofs.Below.{tests-agree, all-below, below-all, below-greatest, greatest-least}
 use Rattle.sets.proofs.Sets.{members-each, member-each, plain-ext}
 use Rattle.sets.proofs.Residuals.{member-after}
 use Rattle.model.specs.Lists.{missions}
@@ -28,25 +27,21 @@ use Rattle.rows.specs.Words.{words}
 use Rattle.rows.specs.Rules.{above}
 use Rattle.rows.specs.Tidy.{Used, Arc, Tidy}
 use Rattle.rows.specs.Growth.{Grown, Useful}
-use Rattle.rows.proofs.Facts.{no-row, inside-row, row-inside, in-use-used, used-in-use, named-cases, named-inside}
+use Rattle.rows.proofs.Facts.{no-row, in-use-used, used-in-use, named-cases, named-inside}
 use Rattle.rows.proofs.Words.{fan-empty, fan-word, fan-plain, words-plain, words-none, empty-word, words-target, has-word, height-short}
 use Rattle.rows.proofs.Growth.{grown-self, mark-kept, height-kept, target-kept, last-kept, used-kept, words-kept}
 use Rattle.growing.specs.declared.makes.Made.the-variants.{Row, Full}
-use Rattle.growing.specs.Rows.{has, agrees, found, isFree, vacant, heightOver, wordsOver, Written}
+use Rattle.index.specs.Index.{Indexed, agrees, Finds}
+use Rattle.growing.specs.Rows.{heightOver, wordsOver, Written}
 use Rattle.growing.specs.Growing.{Fitting, Makes}
 use Rattle.growing.proofs.Growing.{grows-self}
+use Rattle.growing.proofs.Entering.{Free, none-free}
 
 -- the row of u has this mark and these targets
 record Has (u : Table) (r k : ℕ) (ts : List ℕ) : Type 0 where
   used : Used u r
   marked : mark u r ≡ k
   targeted : (x : ℕ) → x < letters → target u r x ≡ getD ts x 0
-
-free-row : (t : Table) (r : ℕ) → isFree t r ≡ true → (0 < r) × (r < rowCount t) × (mark t r ≡ 0)
-free-row t r e =
-    let (row, free) = and-eq-true-iff _ (eqb (mark t r) 0) .0 e in
-    let (positive, inside) = row-inside t r row in
-    (positive, inside, eqb-true (mark t r) 0 free)
 
 module _ (t : Table) (r k : ℕ) (ts : List ℕ) where
   agrees-has : agrees t r k ts ≡ true → Has t r k ts
@@ -94,9 +89,9 @@ module _ (t : Table) (k : ℕ) (ts : List ℕ) (tidy : Tidy t) (fitting : Fittin
   pub height-fits : heightOver t ts ≤ longest
   height-fits = greatest-least _ letters longest above-fits
 
-  pub none-made : k ≡ 1 → heightOver t ts ≡ 0 → Makes 1 t t (wordsOver t k ts) (Row 0)
+  pub none-made : k ≡ 1 → ((x : ℕ) → x < letters → getD ts x 0 ≡ 0) → Makes 1 t t (wordsOver t k ts) (Row 0)
   unfolding member
-  none-made one low =
+  none-made one none =
       record {
         grows = grows-self t tidy _;
         named = λ h. absurd (omega arith);
@@ -104,32 +99,22 @@ module _ (t : Table) (k : ℕ) (ts : List ℕ) (tidy : Tidy t) (fitting : Fittin
         few = omega arith;
       }
     where
-      none : (x : ℕ) → x < letters → getD ts x 0 ≡ 0
-      none x h =
-          elim (ℕ-discrete (getD ts x 0) 0) [
-            | yes e ↦ e
-            | no e ↦ absurd (omega (arith, rw (ne-eqb (getD ts x 0) 0 e) at (below-greatest (λ x. above t (getD ts x 0)) letters x h)))
-          ]
-
       same : (w : Word) → Spelled w → member w (words t 0) ≡ member w (wordsOver t k ts)
       same [] s = rw (fan-empty, words-none t 0 (no-row t 0 refl), one)
       same (x ∷ w) s = rw (fan-word, lt-ltb x letters (s .0), none x (s .0), words-none t 0 (no-row t 0 refl))
 
-  pub found-inside : 0 < found t k ts → found t k ts < rowCount t
-  found-inside h = first-some (λ r. agrees t r k ts) (rowCount t) h .0
-
-  pub found-made : 0 < found t k ts → Makes 1 t t (wordsOver t k ts) (Row (found t k ts))
-  found-made h =
-      let row = agrees-has t (found t k ts) k ts (first-some (λ r. agrees t r k ts) (rowCount t) h .1) in
+  pub found-made : {f : ℕ} → Finds t (rowCount t) k ts f → 0 < f → Makes 1 t t (wordsOver t k ts) (Row f)
+  found-made {f} found some =
+      let row = agrees-has t f k ts (found .there some) in
       record {
         grows = grows-self t tidy _;
         named = λ _. row .used;
-        has = has-words t tidy (grown-self t) (found t k ts) row;
+        has = has-words t tidy (grown-self t) f row;
         few = omega arith;
       }
 
-  pub full-made : vacant t ≡ 0 → Makes 1 t t (wordsOver t k ts) Full
-  full-made e =
+  pub full-made : {index : List ℕ} → Indexed t index → getD index 0 0 ≡ 0 → Makes 1 t t (wordsOver t k ts) Full
+  full-made indexed e =
       record {
         grows = grows-self t tidy _;
         full = count-positive (rowCount t) (λ r. inUse t r) (omega (arith, tidy .least)) (rw (no-row t 0 refl)) all;
@@ -137,22 +122,16 @@ module _ (t : Table) (k : ℕ) (ts : List ℕ) (tidy : Tidy t) (fitting : Fittin
       }
     where
       all : (r : ℕ) → 0 < r → r < rowCount t → inUse t r ≡ true
-      all r positive inside =
-          let taken = rw (inside-row t r positive inside) at (first-zero (λ s. isFree t s) (rowCount t) e (rw (no-row t 0 refl)) r inside) in
-          let busy = eqb-false (mark t r) 0 taken in
-          used-in-use {t = t} {r = r} (record { positive = positive; inside = inside; marked = omega arith })
-
-  pub vacant-inside : 0 < vacant t → vacant t < rowCount t
-  vacant-inside h = first-some (λ r. isFree t r) (rowCount t) h .0
+      all r positive inside = used-in-use (none-free t indexed e r positive inside)
 
   -- a new row, where none in use agrees
-  module _ (u : Table) (some : k ≡ 1 → heightOver t ts ≡ 0 → ⊥) (none : found t k ts ≡ 0) (r : ℕ) (free : isFree t r ≡ true)
+  module _ (u : Table) (some : k ≡ 1 → (x : ℕ) × (x < letters) × (0 < getD ts x 0)) (none : Finds t (rowCount t) k ts 0) (r : ℕ) (free : Free t r)
       (written : Written t u r k (heightOver t ts) ts) where
     positive : 0 < r
-    positive = free-row t r free .0
+    positive = free .positive
 
     empty : mark t r ≡ 0
-    empty = free-row t r free .2
+    empty = free .empty
 
     rows : rowCount u ≡ rowCount t
     rows = rw (written .long)
@@ -171,7 +150,7 @@ module _ (t : Table) (k : ℕ) (ts : List ℕ) (tidy : Tidy t) (fitting : Fittin
     new-has : Has u r k ts
     new-has =
         record {
-          used = record { positive = positive; inside = omega (arith, free-row t r free .1); marked = omega (arith, written .marked, fitting .some) };
+          used = record { positive = positive; inside = omega (arith, free .inside); marked = omega (arith, written .marked, fitting .some) };
           marked = written .marked;
           targeted = written .targeted;
         }
@@ -284,7 +263,7 @@ module _ (t : Table) (k : ℕ) (ts : List ℕ) (tidy : Tidy t) (fitting : Fittin
         lasts : (s : ℕ) → Used u s → last u s ≡ 0
         lasts s v =
             elim (old-or-new s v) [
-              | inl e ↦ rw e (written .rest ∙ tidy .zeros r 39 positive (free-row t r free .1) empty (omega arith))
+              | inl e ↦ rw e (written .rest ∙ tidy .zeros r 39 positive (free .inside) empty (omega arith))
               | inr old ↦ last-kept t u new-grown s old ∙ tidy .lasts s old
             ]
 
@@ -299,12 +278,8 @@ module _ (t : Table) (k : ℕ) (ts : List ℕ) (tidy : Tidy t) (fitting : Fittin
           where
             new-arc : k ≡ 1 → (x : ℕ) × Arc u r x
             new-arc one =
-                let high : 0 < heightOver t ts = elim (ℕ-discrete (heightOver t ts) 0) [ yes e ↦ absurd (some one e) | no e ↦ omega arith ] in
-                let (x, h, higher) = greatest-some _ letters high in
-                (x, record { used = new-has .used; letter = h; there = rw (written .targeted x h) (there x higher) })
-              where
-                there : (x : ℕ) → 0 < above t (getD ts x 0) → 0 < getD ts x 0
-                there x higher = elim (ℕ-discrete (getD ts x 0) 0) [ yes e ↦ absurd (omega (arith, rw e at higher)) | no e ↦ omega arith ]
+                let (x, h, there) = some one in
+                (x, record { used = new-has .used; letter = h; there = rw (written .targeted x h) there })
 
         apart : (p q : ℕ) → Used u p → Used u q → mark u p ≡ mark u q → ((x : ℕ) → x < letters → target u p x ≡ target u q x) → p ≡ q
         apart p q v w marks targets =
@@ -329,10 +304,10 @@ module _ (t : Table) (k : ℕ) (ts : List ℕ) (tidy : Tidy t) (fitting : Fittin
                   marked = sym (mark-kept t u new-grown s old) ∙ marks ∙ written .marked;
                   targeted = λ x h. sym (target-kept t u new-grown s x old h) ∙ targets x h ∙ written .targeted x h;
                 } in
-                false≢true (sym (first-zero (λ s. agrees t s k ts) (rowCount t) none (rw (no-row t 0 refl)) s (old .inside)) ∙ has-agrees t s k ts same)
+                none .none refl s (omega (arith, old .inside)) (has-agrees t s k ts same)
 
-    new-row : Makes 1 t u (wordsOver t k ts) (Row r)
-    new-row =
+    pub new-made : Makes 1 t u (wordsOver t k ts) (Row r)
+    new-made =
         record {
           grows = record { tidy = new-tidy; grown = new-grown; useful = useful };
           named = λ _. new-has .used;
@@ -360,7 +335,3 @@ module _ (t : Table) (k : ℕ) (ts : List ℕ) (tidy : Tidy t) (fitting : Fittin
               | inl e ↦ rw (e, words-new) (needed (rw words-new at (has-word u new-tidy r (new-has .used))))
               | inr old ↦ rw (words-kept t u new-grown tidy s (λ _. old)) (us s old)
             ]
-
-  pub new-made : (u : Table) → (k ≡ 1 → heightOver t ts ≡ 0 → ⊥) → found t k ts ≡ 0 → 0 < vacant t
-      → Written t u (vacant t) k (heightOver t ts) ts → Makes 1 t u (wordsOver t k ts) (Row (vacant t))
-  new-made u some none h written = new-row u some none (vacant t) (first-some (λ r. isFree t r) (rowCount t) h .1) written

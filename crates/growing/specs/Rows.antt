@@ -1,35 +1,15 @@
--- The row for a mark and 37 targets: the one in use that agrees, a free one, its height, its words, and how it is written. Assumes nothing.
+-- The row for a mark and 37 targets: its height, its words, and how it is written. Assumes nothing.
 use Prim.Native.Nat.{ℕ, _/_, _<_}
 use mathlib.Core.Path.{_≡_}
-use mathlib.Core.Bool.{Bool, cond, _&&_}
+use mathlib.Core.Bool.{Bool, cond}
 use mathlib.Core.List.{List}
-use lib.Dec.{eqb}
 use lib.ListN.{length, getD}
 use Rattle.letters.specs.Letters.{letters}
-use Rattle.sets.specs.Below.{allBelow, firstBelow, greatest}
+use Rattle.sets.specs.Below.{greatest}
 use Rattle.sets.specs.Sets.{Words}
-use Rattle.rows.specs.Table.{Table, width, rowCount, isRow, mark, height, target, last, inUse}
+use Rattle.rows.specs.Table.{Table, width, mark, height, target, last}
 use Rattle.rows.specs.Words.{fan, words}
 use Rattle.rows.specs.Rules.{above}
-
--- 6. "No two rows in use agree in mark and all 37 targets": the row in use has this mark and these targets
-abbrev pub has : Table → ℕ → ℕ → List ℕ → Bool
-has t r k targets = eqb (mark t r) k && allBelow letters (λ x. eqb (target t r x) (getD targets x 0))
-
-abbrev pub agrees : Table → ℕ → ℕ → List ℕ → Bool
-agrees t r k targets = inUse t r && has t r k targets
-
--- the first row in use that agrees, or 0
-abbrev pub found : Table → ℕ → List ℕ → ℕ
-found t k targets = firstBelow (rowCount t) (λ r. agrees t r k targets)
-
--- "0 free"
-abbrev pub isFree : Table → ℕ → Bool
-isFree t r = isRow t r && eqb (mark t r) 0
-
--- the first free row, or 0
-abbrev pub vacant : Table → ℕ
-vacant t = firstBelow (rowCount t) (λ r. isFree t r)
 
 -- 3. "the height is 0 if there is no target, else one more than the greatest height among its targets"
 abbrev pub heightOver : Table → List ℕ → ℕ

@@ -1,9 +1,11 @@
 -- The row of a pair of rows. A pair of one row twice, or with a missing row, is that row or none. Another pair's row is made letter by letter:
 -- its target is the row of the pair of the targets, which are lower, and what is left of the combined words after the letter is what is left of
--- the two, combined. Rows in use keep their words while the table grows, and so every pair that is settled stays so. Assumes nothing.
+-- the two, combined; a letter for which neither row has a target is skipped, as nothing is left after it. Rows in use keep their words while the
+-- table grows, and so every pair that is settled stays so. Assumes nothing.
 use Prim.Native.Nat.{ℕ, zero, suc, _+_, _≤_, _<_, max}
 use native.Mathlib.Omega.{arith}
 use native.Mathlib.Decide.{ℕ-discrete}
+use native.Mathlib.Numerals.{add-one}
 use mathlib.Core.Path.{_≡_, refl, sym, _∙_}
 use mathlib.Core.Logic.{inl, inr}
 use mathlib.Core.Bool.{Bool, true, false, cond}
@@ -18,14 +20,16 @@ use Rattle.letters.specs.Names.{longest}
 use Rattle.sets.specs.Sets.{Words, Plain, member}
 use Rattle.sets.specs.Residuals.{after}
 use Rattle.model.specs.Rules.{combined, chosen}
-use Rattle.model.proofs.Combined.{member-combined, plain-combined, combined-each, after-combined, combined-or-none}
+use Rattle.model.proofs.Combined.{member-combined, plain-combined, chosen-none, combined-each, after-combined, combined-or-none}
 use Rattle.rows.specs.Table.{Table, mostRows, rowCount, mark, target}
 use Rattle.rows.specs.Words.{words}
 use Rattle.rows.specs.Rules.{above}
 use Rattle.rows.specs.Tidy.{Used, Named, Tidy}
 use Rattle.rows.specs.Growth.{Grown}
+use Rattle.rows.specs.Skips.{Arcless}
 use Rattle.rows.proofs.Facts.{no-row, named-cases, named-inside, target-named, target-lower}
 use Rattle.rows.proofs.Zeros.{zero-cell}
+use Rattle.rows.proofs.Skipping.{skips}
 use Rattle.rows.proofs.Words.{words-plain, words-short, words-none, empty-word, words-target}
 use Rattle.rows.proofs.Growth.{mark-kept, height-kept, used-kept, named-kept, words-kept}
 use Rattle.growing.specs.Rows.{endMark}
@@ -34,7 +38,7 @@ use Rattle.growing.specs.declared.makes.Made.the-variants.{Row, Full}
 use Rattle.growing.specs.Growing.{MadeRow, Targets}
 use Rattle.growing.proofs.Growing.{Within, within-after, grows-self}
 use Rattle.growing.proofs.Targets.{end-marked, targets-none, targets-more, targets-full, targets-fit, over-words, targets-made}
-use Rattle.pairing.specs.Pairs.{orNone, atOnce, pairMark, Pair, Pairs, Square, entry, kept, Settles, Settled, Ready, Combines}
+use Rattle.pairing.specs.Pairs.{orNone, atOnce, pairMark, Pair, Pairs, Wide, entry, kept, Settles, Settled, Ready, Combines}
 
 -- the words of a pair
 abbrev wanted : ℕ → Table → ℕ → ℕ → Words
@@ -46,38 +50,32 @@ none-entered zero m p q = refl
 none-entered (suc n) m zero q = zero-cell m q
 none-entered (suc n) m (suc p) q = none-entered n m p q
 
-none-square : (n : ℕ) → n ≡ mostRows → Square (replicate n (replicate n 0))
-none-square n e =
-    let none : List ℕ = replicate n 0 in
+pub none-settled : (op : ℕ) (t : Table) (lanes : ℕ) → rowCount t ≤ lanes → Settled op t (replicate lanes (replicate mostRows 0))
+none-settled op t lanes enough =
+    let none : List ℕ = replicate mostRows 0 in
     record {
-      long = length-replicate n none ∙ e;
-      wide = λ p h. rw (getD-replicate n p none [] (omega arith)) (length-replicate {A = ℕ} n 0 ∙ e);
-    }
-
-pub none-settled : (op : ℕ) (t : Table) → Settled op t (replicate mostRows (replicate mostRows 0))
-none-settled op t =
-    record {
-      square = none-square mostRows refl;
-      settled = λ p q r e. absurd (omega (arith, e, none-entered mostRows mostRows p q));
+      rows = rw (length-replicate lanes none) enough;
+      wide = λ p h. rw (getD-replicate lanes p none [] (rw (length-replicate lanes none) at h)) (length-replicate {A = ℕ} mostRows 0);
+      settled = λ p q r e. absurd (omega (arith, e, none-entered lanes mostRows p q));
     }
 
 -- the table of pairs with one pair more
-module _ {seen : Pairs} (square : Square seen) (p q r : ℕ) (few : (p < mostRows) × (q < mostRows)) where
+module _ {op : ℕ} {t : Table} {seen : Pairs} (before : Settled op t seen) (p q r : ℕ) (few : (p < length seen) × (q < mostRows)) where
   row-kept : getD (kept seen p q r) p [] ≡ set (getD seen p []) q (suc r)
-  row-kept = getD-set-same seen p _ [] (rw (square .long) (few .0))
+  row-kept = getD-set-same seen p _ [] (few .0)
 
-  square-kept : Square (kept seen p q r)
-  square-kept =
-      record {
-        long = length-set seen p _ ∙ square .long;
-        wide = λ a h. elim (ℕ-discrete a p) [
-          | yes e ↦ rw (e, row-kept) (length-set (getD seen p []) q (suc r) ∙ square .wide p (few .0))
-          | no e ↦ rw (getD-set-other seen p a _ [] e) (square .wide a h)
-        ];
-      }
+  long-kept : length (kept seen p q r) ≡ length seen
+  long-kept = length-set seen p _
+
+  wide-kept : Wide (kept seen p q r)
+  wide-kept a h =
+      elim (ℕ-discrete a p) [
+        | yes e ↦ rw (e, row-kept) (length-set (getD seen p []) q (suc r) ∙ before .wide p (few .0))
+        | no e ↦ rw (getD-set-other seen p a _ [] e) (before .wide a (rw long-kept at h))
+      ]
 
   entry-kept : entry (kept seen p q r) p q ≡ suc r
-  entry-kept = rw row-kept (getD-set-same (getD seen p []) q (suc r) 0 (rw (square .wide p (few .0)) (few .1)))
+  entry-kept = rw row-kept (getD-set-same (getD seen p []) q (suc r) 0 (rw (before .wide p (few .0)) (few .1)))
 
   entry-other : (a b : ℕ) → (a ≡ p → b ≡ q → ⊥) → entry (kept seen p q r) a b ≡ entry seen a b
   entry-other a b other =
@@ -86,8 +84,8 @@ module _ {seen : Pairs} (square : Square seen) (p q r : ℕ) (few : (p < mostRow
         | no e ↦ rw (getD-set-other seen p a _ [] e)
       ]
 
-  settled-more : {op : ℕ} {t : Table} → Settled op t seen → Settles op t p q r → Settled op t (kept seen p q r)
-  settled-more {op} {t} before new = record { square = square-kept; settled = settled }
+  settled-more : Settles op t p q r → Settled op t (kept seen p q r)
+  settled-more new = record { rows = rw long-kept (before .rows); wide = wide-kept; settled = settled }
     where
       old : (a b s : ℕ) → entry (kept seen p q r) a b ≡ suc s → (a ≡ p → b ≡ q → ⊥) → Settles op t a b s
       old a b s e other = before .settled a b s (sym (entry-other a b other) ∙ e)
@@ -103,11 +101,11 @@ module _ {seen : Pairs} (square : Square seen) (p q r : ℕ) (few : (p < mostRow
           ]
 
 -- the numbers of two rows are those of a table of pairs
-pub rows-few : {t : Table} {p q : ℕ} → Pair t p q → (p < mostRows) × (q < mostRows)
-rows-few {t} {p} {q} rows =
+pub rows-few : {op : ℕ} {t : Table} {seen : Pairs} {p q : ℕ} → Pair t p q → Settled op t seen → (p < length seen) × (q < mostRows)
+rows-few {t} {p} {q} rows settled =
     let first = named-inside t (rows .tidy) p (rows .first) in
     let second = named-inside t (rows .tidy) q (rows .second) in
-    (omega (arith, rows .tidy .most), omega (arith, rows .tidy .most))
+    (omega (arith, settled .rows), omega (arith, rows .tidy .most))
 
 -- a settled pair stays settled
 module _ {t u : Table} (tidy : Tidy t) (grown : Grown t u) where
@@ -124,7 +122,12 @@ module _ {t u : Table} (tidy : Tidy t) (grown : Grown t u) where
       }
 
   pub settled-kept : {op : ℕ} {seen : Pairs} → Settled op t seen → Settled op u seen
-  settled-kept s = record { square = s .square; settled = λ p q r e. settles-kept (s .settled p q r e) }
+  settled-kept s =
+      record {
+        rows = rw (grown .long) (s .rows);
+        wide = s .wide;
+        settled = λ p q r e. settles-kept (s .settled p q r e);
+      }
 
 -- the row of a settled pair is there
 pub settles-made : {most op : ℕ} {t : Table} {seen : Pairs} {p q r : ℕ} → Tidy t → Settled op t seen → Settles op t p q r
@@ -134,6 +137,11 @@ settles-made {t} tidy settled s =
       makes = record { grows = grows-self t tidy _; named = s .named; has = s .has; few = omega arith };
       settled = settled;
     }
+
+-- the same by other names of the rows and of what was made
+pub combines-as : {most op : ℕ} {t u : Table} {seen : Pairs} {p q n k : ℕ} {made told : Made} → made ≡ told → n ≡ p → k ≡ q
+    → Combines most t u seen op n k made → Combines most t u seen op p q told
+combines-as d e f combines = rw d at (rw e at (rw f at combines))
 
 -- what is ready is a pair of rows
 pub ready-pair : {t : Table} {seen : Pairs} {op p q : ℕ} {ts : List ℕ} → Ready t seen op p q ts → Pair t p q
@@ -152,7 +160,7 @@ row-made {op} {t} {u} {p} {q} {r} rows settled made =
       named = made .named;
       has = made .has ∙ sym (wanted-kept tidy grown op (rows .first) (rows .second));
     } in
-    record { makes = made; settled = settled-more (settled .square) p q r (rows-few rows) (settled-kept tidy grown settled) new }
+    record { makes = made; settled = settled-more (settled-kept tidy grown settled) p q r (rows-few rows settled) new }
 
 module _ {op : ℕ} {t : Table} {p q : ℕ} (rows : Pair t p q) where
   -- a row and itself, or a row and none
@@ -254,24 +262,47 @@ module _ {op : ℕ} {t : Table} {p q : ℕ} (rows : Both t p q) where
       next-within : Within (after x (wanted op t p q)) (wanted op t p q)
       next-within = within-after x letter (wanted op t p q)
 
+      -- the letter is passed, and the others are as before
+      passed : ltb x (x + 1) ≡ true
+      passed = lt-ltb x (x + 1) (omega arith)
+
+      others-same : (y : ℕ) → y < letters → (y ≡ x → ⊥)
+          → cond (ltb y (x + 1)) (after y (wanted op t p q)) [] ≡ cond (ltb y x) (after y (wanted op t p q)) []
+      others-same y h other = rw (step (ltb y x) refl)
+        where
+          step : (b : Bool) → ltb y x ≡ b → ltb y (x + 1) ≡ b
+          step true e = lt-ltb y (x + 1) (omega (arith, ltb-true y x e))
+          step false e = le-ltb y (x + 1) (omega (arith, ltb-false y x e))
+
       pub one-more : {most r : ℕ} {v : Table} {seen′ : Pairs} → Combines most u v seen′ op (target u p x) (target u q x) (Row r)
           → SoFar op t p q v seen′ (set ts x r) (x + 1)
       one-more {most} {r} {v} next =
           record {
             settled = next .settled;
-            targets = targets-more (so-far .targets) v most x r _ letter (rw here (rw next-words at (next .makes))) (rw here next-within) others;
+            targets = targets-more (so-far .targets) v most x r _ letter (rw passed (rw next-words at (next .makes))) (rw passed next-within) others-same;
           }
-        where
-          here : ltb x (x + 1) ≡ true
-          here = lt-ltb x (x + 1) (omega arith)
 
-          step : (y : ℕ) → (y ≡ x → ⊥) → (b : Bool) → ltb y x ≡ b → ltb y (x + 1) ≡ b
-          step y other true e = lt-ltb y (x + 1) (omega (arith, ltb-true y x e))
-          step y other false e = le-ltb y (x + 1) (omega (arith, ltb-false y x e))
+      -- a letter for which neither row has a target may be skipped
+      nothing-left : target u p x ≡ 0 → target u q x ≡ 0 → after x (wanted op t p q) ≡ []
+      nothing-left d e =
+          sym next-words
+          ∙ rw (d, e, words-none u 0 (no-row u 0 refl)) (combined-or-none op false false (words u p) (words-plain u p) ∙ rw (chosen-none op))
 
-          others : (y : ℕ) → y < letters → (y ≡ x → ⊥)
-              → cond (ltb y (x + 1)) (after y (wanted op t p q)) [] ≡ cond (ltb y x) (after y (wanted op t p q)) []
-          others y h other = rw (step y other (ltb y x) refl)
+      skip-one : target u p x ≡ 0 → target u q x ≡ 0 → SoFar op t p q u seen ts (suc x)
+      skip-one d e =
+          record {
+            settled = so-far .settled;
+            targets =
+                record {
+                  grows = so-far .targets .grows;
+                  long = so-far .targets .long;
+                  named = so-far .targets .named;
+                  has = λ y h. so-far .targets .has y h ∙ rw (← add-one x) (elim (ℕ-discrete y x) [
+                    | yes f ↦ rw (f, passed, nothing-left d e, le-ltb x x (omega arith))
+                    | no f ↦ sym (others-same y h f)
+                  ]);
+                };
+          }
 
       pub no-room : {most : ℕ} {v : Table} {seen′ : Pairs} → Combines most u v seen′ op (target u p x) (target u q x) Full
           → Combines (rowCount t) t v seen′ op p q Full
@@ -316,3 +347,13 @@ module _ {op : ℕ} {t : Table} {p q : ℕ} (rows : Both t p q) where
             makes = targets-made (so-far .targets) plain short all v made (rw (mark-chosen, all-ready .over) (last .makes));
             settled = last .settled;
           }
+
+  -- and so may all of them up to e
+  pub skip-letters : {u : Table} {seen : Pairs} {ts : List ℕ} {x e : ℕ} → SoFar op t p q u seen ts x → Arcless u p x e → Arcless u q x e
+      → SoFar op t p q u seen ts e
+  skip-letters {u} {seen} {ts} {x} {e} so-far first second =
+      skips u p (λ y. y ≤ e → (x ≤ y) × SoFar op t p q u seen ts y)
+      (λ y none before low.
+      let (from, there) = before (omega arith) in
+      (omega arith, skip-one there (omega (arith, first .to)) none (second .none y from (omega arith))))
+      x e first (λ _. (omega arith, so-far)) (omega arith) .1

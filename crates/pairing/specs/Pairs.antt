@@ -1,12 +1,12 @@
 -- A pair of rows, its row, and the table of settled pairs. Assumes nothing.
-use Prim.Native.Nat.{ℕ, suc, _<_}
+use Prim.Native.Nat.{ℕ, suc, _≤_, _<_}
 use mathlib.Core.Path.{_≡_}
 use mathlib.Core.Bool.{Bool, true, false, cond}
 use mathlib.Core.List.{List, []}
 use lib.Dec.{eqb}
 use lib.ListN.{length, getD, set}
 use Rattle.model.specs.Rules.{combined, chosen}
-use Rattle.rows.specs.Table.{Table, mostRows, mark}
+use Rattle.rows.specs.Table.{Table, rowCount, mostRows, mark}
 use Rattle.rows.specs.Words.{words}
 use Rattle.rows.specs.Tidy.{Used, Named, Tidy}
 use Rattle.growing.specs.Rows.{endMark, wordsOver}
@@ -35,9 +35,8 @@ pairMark t op p q = endMark (chosen op (eqb (mark t p) 2) (eqb (mark t q) 2))
 abbrev pub Pairs : Type 0
 Pairs = List (List ℕ)
 
-pub record Square (seen : Pairs) : Type 0 where
-  pub long : length seen ≡ mostRows
-  pub wide : (p : ℕ) → p < mostRows → length (getD seen p []) ≡ mostRows
+abbrev pub Wide : Pairs → Type 0
+Wide seen = (p : ℕ) → p < length seen → length (getD seen p []) ≡ mostRows
 
 -- one more than the row of the pair, or 0 where the pair is not settled yet
 abbrev pub entry : Pairs → ℕ → ℕ → ℕ
@@ -56,7 +55,8 @@ pub record Settles (op : ℕ) (t : Table) (p q r : ℕ) : Type 0 where
 
 -- "The result of a pair of rows is settled": every row that is kept has the words of its pair
 pub record Settled (op : ℕ) (t : Table) (seen : Pairs) : Type 0 where
-  pub square : Square seen
+  pub rows : rowCount t ≤ length seen
+  pub wide : Wide seen
   pub settled : (p q r : ℕ) → entry seen p q ≡ suc r → Settles op t p q r
 
 -- everything is there for the row of a pair of rows in use

@@ -9,12 +9,18 @@ use growing::make;
 use letters::LETTERS;
 use rows::MOST_ROWS;
 use rows::mark;
+use rows::next_arc;
+use rows::row_count;
 use rows::target;
+ghost use Prim.Native.Nat.{_≤_};
 ghost use mathlib.Core.Path.{_≡_};
+ghost use Rattle.letters.specs.Letters.{letters};
 ghost use Rattle.model.specs.Rules.{combined};
 ghost use Rattle.rows.specs.Table.{rowCount};
 ghost use Rattle.rows.specs.Words.{words};
 ghost use Rattle.rows.specs.Tidy.{Used};
+ghost use Rattle.rows.specs.Skips.{Arcless};
+ghost use Rattle.index.specs.Index.{Indexed};
 ghost use Rattle.growing.specs.Growing.{Makes};
 ghost use Rattle.pairing.specs.Pairs.{pairMark, Pair, Settled, Ready, Combines};
 
@@ -26,20 +32,32 @@ fn pair_mark(t: &[u16], op: u32, p: usize, q: usize) -> u16
     end_mark(chosen(op, mark(t, p) == 2, mark(t, q) == 2))
 }
 
+// The first letter from x on that one of the two rows has a target for, or the number of letters.
+fn next_arc_of(t: &[u16], p: usize, q: usize, x: usize) -> usize
+    requires { ⌜ Used (now t) p × Used (now t) q × (x ≤ letters) ⌝ }
+    ensures { λ e. ⌜ Arcless (now (t .entry)) p x e × Arcless (now (t .entry)) q x e ⌝ }
+{
+    let a = next_arc(t, p, x);
+    let b = next_arc(t, q, x);
+    if a < b { a } else { b }
+}
+
 // Makes the row of the pair, whose targets are there, and keeps it.
 fn settle_pair(
     t: &mut [u16],
+    index: &mut [u16],
     seen: &mut [[u16; MOST_ROWS]],
     op: u32,
     p: u16,
     q: u16,
     targets: [u16; LETTERS],
 ) -> Made
-    requires { ⌜ Ready (now t) (now seen) op p q targets ⌝ }
-    ensures { λ made. ⌜ Combines 1 (now (t .entry)) (now (t .exit)) (now (seen .exit)) op p q made ⌝ }
+    requires { ⌜ Ready (now t) (now seen) op p q targets × Indexed (now t) (now index) ⌝ }
+    ensures combines { λ made. ⌜ Combines 1 (now (t .entry)) (now (t .exit)) (now (seen .exit)) op p q made ⌝ }
+    ensures indexed { λ _. ⌜ Indexed (now (t .exit)) (now (index .exit)) ⌝ }
 {
     let mark = pair_mark(t, op, p as usize, q as usize);
-    let Made::Row(r) = make(t, mark, targets) else {
+    let Made::Row(r) = make(t, index, mark, targets) else {
         return Made::Full;
     };
     keep(seen, p, q, r);
@@ -47,9 +65,17 @@ fn settle_pair(
 }
 
 // The greater height of the two falls, as every target is lower than its row.
-fn pair(t: &mut [u16], seen: &mut [[u16; MOST_ROWS]], op: u32, p: u16, q: u16) -> Made
-    requires { ⌜ Pair (now t) p q × Settled op (now t) (now seen) ⌝ }
-    ensures { λ made. ⌜ Combines (rowCount (now (t .entry))) (now (t .entry)) (now (t .exit)) (now (seen .exit)) op p q made ⌝ }
+fn pair(
+    t: &mut [u16],
+    index: &mut [u16],
+    seen: &mut [[u16; MOST_ROWS]],
+    op: u32,
+    p: u16,
+    q: u16,
+) -> Made
+    requires { ⌜ Pair (now t) p q × Settled op (now t) (now seen) × Indexed (now t) (now index) ⌝ }
+    ensures combines { λ made. ⌜ Combines (rowCount (now (t .entry))) (now (t .entry)) (now (t .exit)) (now (seen .exit)) op p q made ⌝ }
+    ensures indexed { λ _. ⌜ Indexed (now (t .exit)) (now (index .exit)) ⌝ }
 {
     if p == q || p == 0 || q == 0 {
         return Made::Row(at_once(op, p, q));
@@ -59,24 +85,31 @@ fn pair(t: &mut [u16], seen: &mut [[u16; MOST_ROWS]], op: u32, p: u16, q: u16) -
         return Made::Row(known - 1);
     }
     let mut targets = [0u16; LETTERS];
-    let mut x = 0;
+    let mut x = next_arc_of(t, p as usize, q as usize, 0);
     while x < LETTERS {
         let n = target(t, p as usize, x);
         let k = target(t, q as usize, x);
-        let Made::Row(r) = pair(t, seen, op, n, k) else {
+        let Made::Row(r) = pair(t, index, seen, op, n, k) else {
             return Made::Full;
         };
         targets[x] = r;
-        x += 1;
+        x = next_arc_of(t, p as usize, q as usize, x + 1);
     }
-    settle_pair(t, seen, op, p, q, targets)
+    settle_pair(t, index, seen, op, p, q, targets)
 }
 
+// A book of so few rows has a table of pairs of its own, since all of the table is cleared first.
+const FEW_ROWS: usize = 128;
+
 // No pair is settled at first.
-pub fn combine_rows(t: &mut [u16], op: u32, p: u16, q: u16) -> Made
-    requires { ⌜ Pair (now t) p q ⌝ }
+pub fn combine_rows(t: &mut [u16], index: &mut [u16], op: u32, p: u16, q: u16) -> Made
+    requires { ⌜ Pair (now t) p q × Indexed (now t) (now index) ⌝ }
     ensures { λ made. ⌜ Makes (rowCount (now (t .entry))) (now (t .entry)) (now (t .exit)) (combined op (words (now (t .entry)) p) (words (now (t .entry)) q)) made ⌝ }
 {
+    if row_count(t) <= FEW_ROWS {
+        let mut seen = [[0u16; MOST_ROWS]; FEW_ROWS];
+        return pair(t, index, &mut seen, op, p, q);
+    }
     let mut seen = [[0u16; MOST_ROWS]; MOST_ROWS];
-    pair(t, &mut seen, op, p, q)
+    pair(t, index, &mut seen, op, p, q)
 }

@@ -3,18 +3,19 @@
 use rows::MOST_ROWS;
 ghost use Prim.Native.Nat.{_<_};
 ghost use mathlib.Core.Path.{_≡_};
+ghost use lib.ListN.{length};
 ghost use Rattle.rows.specs.Table.{mostRows};
-ghost use Rattle.pairing.specs.Pairs.{Square, entry, kept};
+ghost use Rattle.pairing.specs.Pairs.{Wide, entry, kept};
 
 pub fn entry(seen: &[[u16; MOST_ROWS]], p: u16, q: u16) -> u16
-    requires { ⌜ Square (now seen) × (p < mostRows) × (q < mostRows) ⌝ }
+    requires { ⌜ Wide (now seen) × (p < length (now seen)) × (q < mostRows) ⌝ }
     ensures { λ n. ⌜ n ≡ entry (now (seen .entry)) p q ⌝ }
 {
     seen[p as usize][q as usize]
 }
 
 pub fn keep(seen: &mut [[u16; MOST_ROWS]], p: u16, q: u16, r: u16)
-    requires { ⌜ Square (now seen) × (p < mostRows) × (q < mostRows) × (r < mostRows) ⌝ }
+    requires { ⌜ Wide (now seen) × (p < length (now seen)) × (q < mostRows) × (r < mostRows) ⌝ }
     ensures { λ _. ⌜ now (seen .exit) ≡ kept (now (seen .entry)) p q r ⌝ }
 {
     seen[p as usize][q as usize] = r + 1;

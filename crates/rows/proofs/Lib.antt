@@ -8,3 +8,4 @@ pub mod Reach
 pub mod Books
 pub mod Zeros
 pub mod Growth
+pub mod Skipping

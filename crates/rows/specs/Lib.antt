@@ -6,3 +6,4 @@ pub mod Rules
 pub mod Tidy
 pub mod Reach
 pub mod Growth
+pub mod Skips

@@ -4,7 +4,8 @@ use Prim.Native.Nat.{ℕ, _+_, _-_, _*_, _/_, _%_}
 use mathlib.Core.Bool.{Bool, _&&_}
 use mathlib.Core.List.{List}
 use lib.Dec.{eqb, leb, ltb}
-use lib.ListN.{length, getD}
+use lib.ListN.{length, take, drop, getD}
+use Rattle.letters.specs.Letters.{letters}
 use Rattle.letters.specs.LetterSet.{countOf}
 use Rattle.sets.specs.Below.{each}
 use Rattle.model.specs.Lists.{missions}
@@ -61,6 +62,10 @@ height t r = getD t (r * width + 1) 0
 -- "Number 2+x is the target row for letter x, or 0 for none."
 abbrev pub target : Table → ℕ → ℕ → ℕ
 target t r x = getD t (r * width + 2 + x) 0
+
+-- the 37 targets of a row
+abbrev pub rowTargets : Table → ℕ → List ℕ
+rowTargets t r = take letters (drop (r * width + 2) t)
 
 -- "Number 39 is 0."
 abbrev pub last : Table → ℕ → ℕ

@@ -2,9 +2,12 @@
 // an equation with a definition of specs/. Whoever is above goes by those names and by the laws of
 // proofs/, and never by the place of a number in the slice.
 mod fill;
+mod skips;
 mod table;
 
 pub use fill::fill_with_zeros;
+pub use skips::next_arc;
+pub use skips::past_zeros;
 pub use table::MISSIONS;
 pub use table::MOST_ROWS;
 pub use table::WIDTH;
@@ -19,4 +22,5 @@ pub use table::room;
 pub use table::row_count;
 pub use table::start;
 pub use table::target;
+pub use table::targets;
 pub use table::used_rows;

@@ -1,10 +1,11 @@
 // The table's length and room, a row's numbers by name, and the rows in use.
+use letters::LETTERS;
 ghost use Prim.Native.Nat.{_<_, max};
 ghost use mathlib.Core.Path.{_≡_};
 ghost use lib.ListN.{length};
 ghost use Rattle.letters.specs.Letters.{letters};
 ghost use Rattle.letters.specs.LetterSet.{flag};
-ghost use Rattle.rows.specs.Table.{rowCount, lengthOk, room, isRow, start, mark, height, target, last, inUse, usedRows};
+ghost use Rattle.rows.specs.Table.{rowCount, lengthOk, room, isRow, start, mark, height, target, rowTargets, last, inUse, usedRows};
 
 // The numbers of a row.
 pub const WIDTH: usize = 40;
@@ -99,6 +100,15 @@ pub fn target(t: &[u16], r: usize, x: usize) -> u16
     ensures { λ n. ⌜ n ≡ target (now (t .entry)) r x ⌝ }
 {
     t[r * WIDTH + 2 + x]
+}
+
+// The 37 targets of a row, as they stand in the table.
+pub fn targets(t: &[u16], r: usize) -> &[u16]
+    requires { ⌜ r < rowCount (now t) ⌝ }
+    ensures { λ s. ⌜ now s ≡ rowTargets (now (t .entry)) r ⌝ }
+{
+    let first = r * WIDTH + 2;
+    &t[first..first + LETTERS]
 }
 
 // "Number 39 is 0."

@@ -11,7 +11,8 @@ use lib.ListN.{length, getD, set, replicate, length-set, length-replicate}
 use lib.Seq.{getD-set-same, getD-set-other}
 use Rattle.rows.specs.Table.{Table, width, rowCount}
 use Rattle.rows.proofs.Zeros.{zero-cell}
-use Rattle.rules.specs.Pointed.{Pointed, Tested, targetOfBelow, Targets}
+use Rattle.index.specs.Index.{indexLength, Keyed}
+use Rattle.rules.specs.Pointed.{Pointed, Tested, KeyedIf, targetOfBelow, Targets}
 
 pub points-nowhere : {at : ℕ → Bool} {p : List ℕ} → ((s : ℕ) → at s ≡ false) → Pointed at p p
 points-nowhere none = record { long = refl; points = λ s h. rw (none s) }
@@ -52,3 +53,10 @@ targets-from-zeros t {n} whole inside d =
       long = rw (d .long, length-replicate {A = ℕ}) inside;
       points = λ s h. rw (d .points s h, zero-cell n s);
     }
+
+-- the keys of the rows, after a test that passed or not
+pub keyed-if : {b : Bool} {t : Table} {n : ℕ} {index : List ℕ} → Keyed t n index → KeyedIf b t n index
+keyed-if k = record { long = k .keys .long; passed = λ e. k }
+
+pub not-keyed : {t : Table} {n : ℕ} {index : List ℕ} → length index ≡ indexLength → KeyedIf false t n index
+not-keyed long = record { long = long; passed = λ e. absurd (false≢true e) }

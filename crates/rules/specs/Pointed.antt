@@ -8,6 +8,7 @@ use Rattle.letters.specs.LetterSet.{flag}
 use Rattle.sets.specs.Below.{someBelow}
 use Rattle.rows.specs.Table.{Table, width, rowCount, inUse}
 use Rattle.rows.specs.Rules.{pointsAt, isTarget}
+use Rattle.index.specs.Index.{indexLength, Keyed}
 
 -- the array after: 1 at the rows that pass the test, the others as before
 pub record Pointed (at : ℕ → Bool) (p q : List ℕ) : Type 0 where
@@ -19,6 +20,11 @@ pub record Tested (rule : Bool) (at : ℕ → Bool) (p q : List ℕ) (answer : B
   pub says : answer ≡ rule
   pub long : length q ≡ length p
   pub points : answer ≡ true → Pointed at p q
+
+-- the keys of the rows before n are in the index, if the test passed
+pub record KeyedIf (answer : Bool) (t : Table) (n : ℕ) (index : List ℕ) : Type 0 where
+  pub long : length index ≡ indexLength
+  pub passed : answer ≡ true → Keyed t n index
 
 -- row r, if it is in use, has row s as a target; and some row below n has
 abbrev pub pointsFrom : Table → ℕ → ℕ → Bool

@@ -1,22 +1,29 @@
 // Rule 3: "In a row in use every target is 0 or a row in use; the height is 0 if there is no target,
 // else one more than the greatest height among its targets, and at most 24; number 39 is 0." Where
-// it holds, the array says which rows are pointed at.
+// it holds, an array says which rows are pointed at, and the index has the key of each row in use.
+use index::keep_key;
+use index::key_from;
+use index::mixed;
 use letters::LETTERS;
 use letters::LONGEST;
 use rows::height;
 use rows::higher;
 use rows::in_use;
 use rows::last;
+use rows::mark;
+use rows::next_arc;
 use rows::row_count;
 use rows::target;
-ghost use Prim.Native.Nat.{_≤_, _<_};
+ghost use Prim.Native.Nat.{suc, _≤_, _<_};
 ghost use mathlib.Core.Path.{_≡_};
 ghost use mathlib.Core.Bool.{_&&_};
 ghost use lib.Dec.{eqb};
 ghost use lib.ListN.{length};
-ghost use Rattle.rows.specs.Table.{rowCount, inUse};
+ghost use Rattle.rows.specs.Table.{rowCount, mostRows, inUse};
 ghost use Rattle.rows.specs.Rules.{ifUsed, arcsOk, pointsAt, isTarget, rule3};
 ghost use Rattle.rules.specs.Asked.{asks};
+ghost use Rattle.index.specs.Index.{Keyed};
+ghost use Rattle.rules.specs.Pointed.{KeyedIf};
 ghost use Rattle.rules.specs.Pointed.{Pointed, Tested, pointsFrom};
 
 // What a target asks of the height of its row, or that it is neither 0 nor a row in use.
@@ -42,19 +49,22 @@ fn follow(t: &[u16], n: usize, pointed: &mut [u16]) -> Asked
 }
 
 // One row in use.
-fn arcs_ok(t: &[u16], r: usize, pointed: &mut [u16]) -> bool
-    requires { ⌜ (r < rowCount (now t)) × (rowCount (now t) ≤ length (now pointed)) ⌝ }
-    ensures { λ b. ⌜ Tested (arcsOk (now (t .entry)) r) (λ s. pointsAt (now (t .entry)) r s) (now (pointed .entry)) (now (pointed .exit)) b ⌝ }
+fn arcs_ok(t: &[u16], r: usize, pointed: &mut [u16], index: &mut [u16]) -> bool
+    requires { ⌜ (r < rowCount (now t)) × (rowCount (now t) ≤ length (now pointed)) × (rowCount (now t) ≤ mostRows) × Keyed (now t) r (now index) ⌝ }
+    ensures tested { λ b. ⌜ Tested (arcsOk (now (t .entry)) r) (λ s. pointsAt (now (t .entry)) r s) (now (pointed .entry)) (now (pointed .exit)) b ⌝ }
+    ensures keyed { λ b. ⌜ KeyedIf b (now (t .entry)) (suc r) (now (index .exit)) ⌝ }
 {
     let mut top = 0;
-    let mut x = 0;
+    let mut m = mark(t, r) as u64;
+    let mut x = next_arc(t, r, 0);
     while x < LETTERS {
-        let n = target(t, r, x) as usize;
-        let Asked::Height(h) = follow(t, n, pointed) else {
+        let n = target(t, r, x);
+        let Asked::Height(h) = follow(t, n as usize, pointed) else {
             return false;
         };
         top = higher(top, h);
-        x += 1;
+        m = mixed(m, x, n);
+        x = next_arc(t, r, x + 1);
     }
     if height(t, r) as usize != top {
         return false;
@@ -62,28 +72,31 @@ fn arcs_ok(t: &[u16], r: usize, pointed: &mut [u16]) -> bool
     if LONGEST < top {
         return false;
     }
+    keep_key(index, r, key_from(m));
     last(t, r) == 0
 }
 
 // One row: a free one passes.
-fn row_ok(t: &[u16], r: usize, pointed: &mut [u16]) -> bool
-    requires { ⌜ rowCount (now t) ≤ length (now pointed) ⌝ }
-    ensures { λ b. ⌜ Tested (ifUsed (now (t .entry)) r (arcsOk (now (t .entry)) r)) (λ s. pointsFrom (now (t .entry)) r s) (now (pointed .entry)) (now (pointed .exit)) b ⌝ }
+fn row_ok(t: &[u16], r: usize, pointed: &mut [u16], index: &mut [u16]) -> bool
+    requires { ⌜ (rowCount (now t) ≤ length (now pointed)) × (rowCount (now t) ≤ mostRows) × Keyed (now t) r (now index) ⌝ }
+    ensures tested { λ b. ⌜ Tested (ifUsed (now (t .entry)) r (arcsOk (now (t .entry)) r)) (λ s. pointsFrom (now (t .entry)) r s) (now (pointed .entry)) (now (pointed .exit)) b ⌝ }
+    ensures keyed { λ b. ⌜ KeyedIf b (now (t .entry)) (suc r) (now (index .exit)) ⌝ }
 {
     if !in_use(t, r) {
         return true;
     }
-    arcs_ok(t, r, pointed)
+    arcs_ok(t, r, pointed, index)
 }
 
-pub fn rule3(t: &[u16], pointed: &mut [u16]) -> bool
-    requires { ⌜ rowCount (now t) ≤ length (now pointed) ⌝ }
-    ensures { λ b. ⌜ Tested (rule3 (now (t .entry))) (λ s. isTarget (now (t .entry)) s) (now (pointed .entry)) (now (pointed .exit)) b ⌝ }
+pub fn rule3(t: &[u16], pointed: &mut [u16], index: &mut [u16]) -> bool
+    requires { ⌜ (rowCount (now t) ≤ length (now pointed)) × (rowCount (now t) ≤ mostRows) × Keyed (now t) 0 (now index) ⌝ }
+    ensures tested { λ b. ⌜ Tested (rule3 (now (t .entry))) (λ s. isTarget (now (t .entry)) s) (now (pointed .entry)) (now (pointed .exit)) b ⌝ }
+    ensures keyed { λ b. ⌜ KeyedIf b (now (t .entry)) (rowCount (now (t .entry))) (now (index .exit)) ⌝ }
 {
     let k = row_count(t);
     let mut r = 1;
     while r < k {
-        if !row_ok(t, r, pointed) {
+        if !row_ok(t, r, pointed, index) {
             return false;
         }
         r += 1;

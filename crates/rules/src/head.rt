@@ -3,6 +3,7 @@ use rows::MISSIONS;
 use rows::WIDTH;
 use rows::is_row;
 use rows::mark;
+use rows::past_zeros;
 use rows::start;
 ghost use Prim.Native.Nat.{_≤_};
 ghost use mathlib.Core.Path.{_≡_};
@@ -42,14 +43,7 @@ fn rest_ok(t: &[u16]) -> bool
     requires { ⌜ width ≤ length (now t) ⌝ }
     ensures { λ r. ⌜ r ≡ restOk (now (t .entry)) ⌝ }
 {
-    let mut i = MISSIONS;
-    while i < WIDTH {
-        if t[i] != 0 {
-            return false;
-        }
-        i += 1;
-    }
-    true
+    past_zeros(t, MISSIONS, WIDTH) == WIDTH
 }
 
 pub fn rule1(t: &[u16]) -> bool

@@ -1,6 +1,7 @@
 // Rule 2: "Each mark is 0, 1 or 2, and a free row is forty zeros."
 use rows::WIDTH;
 use rows::mark;
+use rows::past_zeros;
 use rows::row_count;
 ghost use Prim.Native.Nat.{_<_};
 ghost use mathlib.Core.Path.{_≡_};
@@ -11,14 +12,8 @@ fn is_zeros(t: &[u16], r: usize) -> bool
     requires { ⌜ r < rowCount (now t) ⌝ }
     ensures { λ b. ⌜ b ≡ isZeros (now (t .entry)) r ⌝ }
 {
-    let mut i = 0;
-    while i < WIDTH {
-        if t[r * WIDTH + i] != 0 {
-            return false;
-        }
-        i += 1;
-    }
-    true
+    let end = r * WIDTH + WIDTH;
+    past_zeros(t, r * WIDTH, end) == end
 }
 
 fn mark_ok(t: &[u16], r: usize) -> bool

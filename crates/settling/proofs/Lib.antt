@@ -1,7 +1,4 @@
--- The laws of settling: arrays that mark rows, how the marks spread, a part of a tidy table, the swept table, and what a change comes to.
--- Assumes nothing.
-pub mod Marking
-pub mod Spreading
+-- The laws of settling: a part of a tidy table, the swept table, and what a change comes to. Assumes nothing.
 pub mod Parts
 pub mod Swept
 pub mod Sweeping

@@ -7,7 +7,7 @@ use Prim.Native.Nat.{ℕ, _+_, _*_, _≤_, _<_}
 use native.Mathlib.Omega.{arith}
 use native.Mathlib.Decide.{ℕ-discrete}
 use mathlib.Core.Path.{_≡_, refl, sym, _∙_, ap}
-use mathlib.Core.Bool.{Bool, true, false, cond, false≢true}
+use mathlib.Core.Bool.{Bool, true, false, false≢true}
 use mathlib.Core.List.{[]}
 use lib.Dec.{leb}
 use lib.ListN.{length, getD, length-set}
@@ -85,11 +85,6 @@ module _ (t : Table) (m r : ℕ) (below : m < missions) where
 pub start-back : (t v : Table) (m r old : ℕ) → v ≡ withStart t m r → old ≡ start t m → withStart v m old ≡ t
 start-back t v m r old same at = rw (same, at) (set-set t m r (start t m) ∙ set-getD t m 0)
 
--- the table with the new start, or without it
-pub either-long : (t : Table) (m r : ℕ) (done : Bool) → length (cond done (withStart t m r) t) ≡ length t
-either-long t m r true = length-set t m r
-either-long t m r false = refl
-
 module _ (t : Table) (m r : ℕ) (tidy : Tidy t) (below : m < missions) where
   start-same : start (withStart t m r) m ≡ r
   start-same = getD-set-same t m r 0 (omega (arith, tidy .whole, tidy .least))
@@ -126,10 +121,6 @@ module _ (t : Table) (m r : ℕ) (tidy : Tidy t) (below : m < missions) where
           start-cell t m r below s i some
           ∙ tidy .zeros s i some (rw (start-long t m r below) at inside) (sym (start-mark t m r below s some) ∙ free) h
 
-  pub either-tidy : Startable t r → (done : Bool) → Tidy (cond done (withStart t m r) t)
-  either-tidy startable true = start-tidy startable
-  either-tidy startable false = tidy
-
   start-lists : lists (withStart t m r) ≡ replace (lists t) m (words t r)
   start-lists =
       ext-getD [] (lists (withStart t m r)) (replace (lists t) m (words t r))
@@ -153,9 +144,9 @@ module _ (t : Table) (m r : ℕ) (tidy : Tidy t) (below : m < missions) where
       rw (starts-need (withStart t m r) (start-tidy startable), start-lists, start-long t m r below)
 
   -- the same, as `settle` tests it
-  pub start-says : Startable t r → (v : Table) (n k : ℕ) → v ≡ withStart t m r → n ≡ countOf (rowCount v) (λ s. reached v s) → k ≡ room v
-      → leb n k ≡ fits t m (words t r)
-  start-says startable v n k same count most = rw (count, most, same) (start-fits startable)
+  pub start-says : Startable t r → {v : Table} → v ≡ withStart t m r
+      → leb (countOf (rowCount v) (λ s. reached v s)) (room v) ≡ fits t m (words t r)
+  start-says startable same = rw same (start-fits startable)
 
 pub clear-fits : (t : Table) → sound t ≡ true → (m : ℕ) → m < missions → fits t m [] ≡ true
 clear-fits t e m below =

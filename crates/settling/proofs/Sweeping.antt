@@ -14,8 +14,8 @@ use borrow.Author.Tests.{eq-eqb, ne-eqb, le-leb, lt-leb}
 use Rattle.rows.specs.Table.{Table, width, rowCount}
 use Rattle.rows.specs.Reach.{onlyRows}
 use Rattle.rows.proofs.Facts.{inside-row}
-use Rattle.settling.specs.Marks.{Marks, marked}
-use Rattle.settling.proofs.Marking.{marked-test}
+use Rattle.reaching.specs.Marks.{Marks, marked}
+use Rattle.reaching.proofs.Marking.{marked-test}
 use Rattle.settling.proofs.Swept.{only-length, only-head, only-behind}
 
 -- what holds of every state row that begins in the table

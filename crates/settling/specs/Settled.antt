@@ -5,14 +5,15 @@ use mathlib.Core.Bool.{Bool, true, false, cond}
 use mathlib.Core.List.{[]}
 use lib.Dec.{leb}
 use lib.ListN.{length, set}
+use Rattle.letters.specs.LetterSet.{countOf}
 use Rattle.sets.specs.Sets.{Words, member}
 use Rattle.sets.specs.Residuals.{need}
 use Rattle.model.specs.Lists.{replace}
-use Rattle.rows.specs.Table.{Table, room}
+use Rattle.rows.specs.Table.{Table, rowCount, room}
 use Rattle.rows.specs.Words.{words, lists}
 use Rattle.rows.specs.Rules.{sound}
 use Rattle.rows.specs.Tidy.{Named}
-use Rattle.rows.specs.Reach.{swept}
+use Rattle.rows.specs.Reach.{reached, swept}
 
 -- the table with another start for mission m
 abbrev pub withStart : Table → ℕ → ℕ → Table
@@ -26,6 +27,11 @@ pub record Startable (t : Table) (r : ℕ) : Type 0 where
 -- the sixteen lists, with l for mission m, do not "need more states than room"
 abbrev pub fits : Table → ℕ → Words → Bool
 fits t m l = leb (need (replace (lists t) m l)) (room t)
+
+-- every row that is not reached is free after it, if those that are fit into the room; else the table is the same
+pub record SweptIf (t after : Table) (done : Bool) : Type 0 where
+  pub says : done ≡ leb (countOf (rowCount t) (λ r. reached t r)) (room t)
+  pub table : after ≡ cond done (swept t) t
 
 -- settle: the start is set if the lists then fit; every row that is not reached is free after it
 pub record Settles (t after : Table) (m r : ℕ) (done : Bool) : Type 0 where

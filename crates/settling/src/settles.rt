@@ -1,7 +1,6 @@
 // Settling a change.
-use super::spreads::reached;
 use super::sweeps::sweep;
-use rows::room;
+use super::sweeps::sweep_if_fits;
 use rows::start;
 ghost use Prim.Native.Nat.{_<_};
 ghost use mathlib.Core.Path.{_≡_};
@@ -25,10 +24,10 @@ pub fn settle(t: &mut [u16], m: usize, r: u16) -> bool
 {
     let old = start(t, m);
     set_start(t, m, r);
-    let fits = reached(t) <= room(t);
-    if !fits {
-        set_start(t, m, old);
+    if sweep_if_fits(t) {
+        return true;
     }
+    set_start(t, m, old);
     sweep(t);
-    fits
+    false
 }

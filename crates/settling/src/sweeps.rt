@@ -1,9 +1,11 @@
 // Freeing the rows that no start reaches. "Free rows count again".
-use super::spreads::mark_reached;
+use reaching::count_marked;
+use reaching::mark_reached;
 use rows::MOST_ROWS;
 use rows::WIDTH;
+use rows::room;
 use rows::row_count;
-ghost use Prim.Native.Nat.{_*_, _≤_, _<_};
+ghost use Prim.Native.Nat.{_*_, _≤_};
 ghost use mathlib.Core.Path.{_≡_};
 ghost use mathlib.Core.Bool.{true, not, _||_};
 ghost use lib.Dec.{eqb};
@@ -11,7 +13,8 @@ ghost use lib.ListN.{length};
 ghost use Rattle.rows.specs.Table.{width, rowCount, isRow};
 ghost use Rattle.rows.specs.Tidy.{Tidy};
 ghost use Rattle.rows.specs.Reach.{onlyRows, swept};
-ghost use Rattle.settling.specs.Marks.{marked};
+ghost use Rattle.reaching.specs.Marks.{marked};
+ghost use Rattle.settling.specs.Settled.{SweptIf};
 
 // "a free row is forty zeros".
 fn free_row(t: &mut [u16], r: usize)
@@ -56,4 +59,18 @@ pub fn sweep(t: &mut [u16])
     let mut keep = [0u16; MOST_ROWS];
     mark_reached(t, &mut keep);
     sweep_rows(t, &keep);
+}
+
+// Frees the rows that are not reached, if those that are fit into the room; says whether they do.
+pub fn sweep_if_fits(t: &mut [u16]) -> bool
+    requires { ⌜ Tidy (now t) ⌝ }
+    ensures { λ done. ⌜ SweptIf (now (t .entry)) (now (t .exit)) done ⌝ }
+{
+    let mut keep = [0u16; MOST_ROWS];
+    mark_reached(t, &mut keep);
+    if room(t) < count_marked(t, &keep) {
+        return false;
+    }
+    sweep_rows(t, &keep);
+    true
 }

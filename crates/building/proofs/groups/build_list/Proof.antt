@@ -8,13 +8,14 @@ use Rattle.building.proofs.groups.build_list.Tie as tie
 
 returns : tie.Need-returns
 returns c =
-    let start = c .before .before .before in
+    let start = c .before .before .before .before in
     rw (no-names (start .args .list .now) 0 (omega arith)) (none-built _ (start .pre .0))
 
 build-requires : tie.Need-build-requires
 build-requires c κs =
-    let start = c .before .before .before .before in
-    (start .pre .0, list-begins _ (start .pre .1) (omega arith))
+    let start = c .before .before .before .before .before .before in
+    let (tidy, indexed, listed) = start .pre in
+    (tidy, indexed, list-begins _ listed (omega arith))
 
 enum-known-n : tie.Need-enum-known-n
 enum-known-n c = search needs
@@ -25,14 +26,32 @@ enum-told c = search needs
 same-length : tie.Need-same-length
 same-length c = search needs
 
-returns-2 : tie.Need-returns-2
-returns-2 c = rw (c .enum-told .given .1) at (c .before .before .before .before .build .ensures)
-
 same-length-2 : tie.Need-same-length-2
 same-length-2 c = search needs
 
+returns-2 : tie.Need-returns-2
+returns-2 c = rw (c .enum-told .given .1) at (c .before .before .before .before .before .before .build .ensures .0)
+
+same-length-3 : tie.Need-same-length-3
+same-length-3 c = search needs
+
+same-length-4 : tie.Need-same-length-4
+same-length-4 c = search needs
+
 returns-3 : tie.Need-returns-3
-returns-3 c = (rw (c .before .n .given .1) at (c .before .before .before .before .before .build .ensures)) .made
+returns-3 c = (rw (c .before .n .given .1) at (c .before .before .before .before .before .before .before .build .ensures .0)) .made
 
 pub build-list-spec : {M : Type 1} → statement M
-build-list-spec = tie.close (tie.spec returns build-requires enum-known-n enum-told same-length returns-2 same-length-2 returns-3)
+build-list-spec =
+    tie.close
+    (tie.spec
+    returns
+    build-requires
+    enum-known-n
+    enum-told
+    same-length
+    same-length-2
+    returns-2
+    same-length-3
+    same-length-4
+    returns-3)

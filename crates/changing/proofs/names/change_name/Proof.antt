@@ -8,26 +8,33 @@ use Rattle.changing.proofs.Outcomes.{never-full, path-startable, path-s
 use Rattle.changing.proofs.names.change_name.Statement.{statement}
 use Rattle.changing.proofs.names.change_name.Tie as tie
 
+abbrev begin : tie.After-start → tie.Start
+begin c = c .before .before .before .before .before
+
 start-requires : tie.Need-start-requires
-start-requires c κs = let (given, _) = c .before .before .before .pre in start-inside _ (sound-length _ (given .sound)) _ (given .mission)
+start-requires c κs =
+    let (given, _, _) = c .before .before .before .before .pre in
+    start-inside _ (sound-length _ (given .sound)) _ (given .mission)
 
 path-requires : tie.Need-path-requires
 path-requires c κs =
-    let first = c .before .before .before .before .before in
-    let (given, _) = first .pre in
+    let started = c .before .before in
+    let first = begin started in
+    let (given, indexed, _) = first .pre in
     let tidy = sound-facts _ (given .sound) .tidy in
     let (_, short, spelled) = name-parts _ (given .named) in
-    (tidy, rw (c .before .start .ensures) (start-named (first .args .t .now) tidy (first .args .m) (given .mission)), spelled, short)
+    (tidy, indexed, rw (started .start .ensures) (start-named (first .args .t .now) tidy (first .args .m) (given .mission)), spelled, short)
 
 enum-known-n : tie.Need-enum-known-n
 enum-known-n c = search needs
 
 settle-requires : tie.Need-settle-requires
 settle-requires c κs =
-    let called = c .before .before .before .before .before .before in
-    let first = called .before .before .before .before .before .before in
-    let (given, _) = first .pre in
-    let made = rw (c .before .before .n .given .1, called .before .before .start .ensures) at (called .path .ensures) in
+    let called = c .before .before .before .before .before .before .before .before in
+    let started = called .before .before .before in
+    let first = begin started in
+    let (given, _, _) = first .pre in
+    let made = rw (c .before .before .n .given .1, started .start .ensures) at (called .path .ensures .0) in
     (made .grows .tidy, omega (arith, given .mission), path-startable _ (given .sound) _ (given .mission) (first .args .on) _ (given .named) _ _ _ made)
 
 settled-requires : tie.Need-settled-requires
@@ -39,25 +46,32 @@ enum-told c = search needs
 same-length : tie.Need-same-length
 same-length c = search needs
 
-returns : tie.Need-returns
-returns c =
-    let settled = c .before .before .before in
-    let called = settled .before .before .before .before .before .before .before in
-    let first = called .before .before .before .before .before .before in
-    let (given, other) = first .pre in
-    let made = rw (settled .before .before .before .n .given .1, called .before .before .start .ensures) at (called .path .ensures) in
-    rw (c .settled .ensures)
-    (path-settled _ (given .sound) _ (given .mission) (first .args .on) _ (given .named) _ _ _ made other _ _ (settled .settle .ensures))
-
 same-length-2 : tie.Need-same-length-2
 same-length-2 c = search needs
 
+returns : tie.Need-returns
+returns c =
+    let settled = c .before .before .before in
+    let called = settled .before .before .before .before .before .before .before .before .before in
+    let started = called .before .before .before in
+    let first = begin started in
+    let (given, _, other) = first .pre in
+    let made = rw (settled .before .before .before .n .given .1, started .start .ensures) at (called .path .ensures .0) in
+    rw (c .settled .ensures)
+    (path-settled _ (given .sound) _ (given .mission) (first .args .on) _ (given .named) _ _ _ made other _ _ (settled .settle .ensures))
+
+same-length-3 : tie.Need-same-length-3
+same-length-3 c = search needs
+
+same-length-4 : tie.Need-same-length-4
+same-length-4 c = search needs
+
 returns-2 : tie.Need-returns-2
 returns-2 c =
-    let called = c .before .before .before .before in
-    let first = called .before .before .before .before .before .before in
-    let (given, _) = first .pre in
-    let full = rw (c .enum-told .given .1) at (called .path .ensures) in
+    let called = c .before .before .before .before .before .before in
+    let first = begin (called .before .before .before) in
+    let (given, _, _) = first .pre in
+    let full = rw (c .enum-told .given .1) at (called .path .ensures .0) in
     absurd (never-full _ (given .sound) _ (given .mission) (first .args .on) _ (given .named) _ _ full)
 
 pub change-name-spec : {M : Type 1} → statement M
@@ -71,6 +85,8 @@ change-name-spec =
     settled-requires
     enum-told
     same-length
-    returns
     same-length-2
+    returns
+    same-length-3
+    same-length-4
     returns-2)

@@ -1,4 +1,4 @@
--- `set` meets its promise: its first tests refuse it, or leave a sound book, a mission and a name. Assumes nothing.
+-- `set` meets its promise: its first tests refuse it, or leave a sound book with its index, a mission and a name. Assumes nothing.
 use mathlib.Core.Path.{sym, _∙_}
 use borrow.Author.Needs.{needs}
 use Rattle.answers.specs.declared.cases.Refusal.the-variants.{Name}
@@ -10,17 +10,26 @@ use Rattle.changing.proofs.names.set.Tie as tie
 is-name-requires : tie.Need-is-name-requires
 is-name-requires c κs = search needs
 
-admit-requires : tie.Need-admit-requires
-admit-requires c κs = search needs
+slice-aggregate-admit-indexed : tie.Need-slice-aggregate-admit-indexed
+slice-aggregate-admit-indexed c = search needs
+
+admit-indexed-requires : tie.Need-admit-indexed-requires
+admit-indexed-requires c κs = search needs
 
 enum-told : tie.Need-enum-told
 enum-told c = search needs
 
+slice-aggregate-set-name : tie.Need-slice-aggregate-set-name
+slice-aggregate-set-name c = search needs
+
 set-name-requires : tie.Need-set-name-requires
 set-name-requires c κs =
-    let tested = c .before .before .before in
-    let fine = admitted _ _ _ Name (c .before .enum-told .given .1) (tested .admit .ensures) in
-    record { sound = fine .sound; mission = fine .mission; named = sym (tested .before .is-name .ensures) ∙ fine .fine }
+    let tested = c .before .before .before .before .before in
+    let told = c .before .before .enum-told .given .1 in
+    let fine = admitted _ _ _ Name told (tested .admit-indexed .ensures .0) in (
+      record { sound = fine .sound; mission = fine .mission; named = sym (tested .before .before .is-name .ensures) ∙ fine .fine },
+      tested .admit-indexed .ensures .1 told,
+    )
 
 enum-known-r : tie.Need-enum-known-r
 enum-known-r c = search needs
@@ -36,18 +45,21 @@ same-length-2 c = search needs
 
 returns-2 : tie.Need-returns-2
 returns-2 c =
-    let tested = c .before .before .before in
-    let args = tested .before .before .before .before .before .args in
+    let tested = c .before .before .before .before in
+    let named = tested .before .before in
+    let args = named .before .before .before .before .args in
     set-refused (args .t .now) (args .on) (args .m) (args .name .now) (c .before .r .given .1)
-    (rw (tested .before .is-name .ensures) at (tested .admit .ensures))
+    (rw (named .is-name .ensures) at (tested .admit-indexed .ensures .0))
 
 pub set-spec : {M : Type 1} → statement M
 set-spec =
     tie.close
     (tie.spec
     is-name-requires
-    admit-requires
+    slice-aggregate-admit-indexed
+    admit-indexed-requires
     enum-told
+    slice-aggregate-set-name
     set-name-requires
     enum-known-r
     same-length

@@ -1,11 +1,13 @@
 -- `set_name` meets its promise: the walk says whether the name is on the list; if that is as wanted nothing changes, and else the name is
 -- changed. Assumes nothing.
-use mathlib.Core.Path.{_≡_, sym, _∙_}
+use Prim.Native.Nat.{ℕ}
+use mathlib.Core.Path.{_≡_, sym, ap, _∙_}
 use borrow.Author.Needs.{needs}
 use Rattle.letters.specs.Words.{wordOf}
 use Rattle.letters.proofs.Words.{name-parts}
 use Rattle.sets.specs.Sets.{member}
 use Rattle.model.specs.Lists.{listOf}
+use Rattle.rows.specs.Table.{ends}
 use Rattle.rows.specs.Words.{lists}
 use Rattle.rows.proofs.Rules.{sound-length, start-inside}
 use Rattle.minimal.proofs.Theorems.{sound-ask}
@@ -13,9 +15,12 @@ use Rattle.changing.proofs.Outcomes.{beq-same, beq-other, set-same}
 use Rattle.changing.proofs.names.set_name.Statement.{statement}
 use Rattle.changing.proofs.names.set_name.Tie as tie
 
+abbrev begin : tie.After-ends → tie.Start
+begin c = c .before .before .before .before .before .before .before
+
 walk-list-requires : tie.Need-walk-list-requires
 walk-list-requires c κs =
-    let given = c .before .before .before .pre in
+    let (given, _) = c .before .before .before .before .pre in
     let (_, _, spelled) = name-parts _ (given .named) in
     (start-inside _ (sound-length _ (given .sound)) _ (given .mission), spelled)
 
@@ -27,30 +32,37 @@ same-length c = search needs
 
 -- the walk says whether the name is on the list
 on-list : (c : tie.After-ends) →
-    let first = c .before .before .before .before .before .before in
+    let first = begin c in
     c .ends .result ≡ member (wordOf (first .args .name .now)) (listOf (lists (first .args .t .now)) (first .args .m))
 on-list c =
-    let first = c .before .before .before .before .before .before in
-    let given = first .pre in
+    let first = begin c in
+    let (given, _) = first .pre in
     let (_, _, spelled) = name-parts _ (given .named) in
-    c .ends .ensures ∙ rw (c .before .before .walk-list .ensures) (sound-ask (first .args .t .now) (given .sound) (first .args .m) (given .mission) _ spelled)
+    c .ends .ensures ∙ ap (λ (n : ℕ). ends (first .args .t .now) n) (c .before .before .walk-list .ensures)
+    ∙ sound-ask (first .args .t .now) (given .sound) (first .args .m) (given .mission) _ spelled
 
 returns : tie.Need-returns
 returns c =
-    let first = c .before .before .before .before .before .before .before in
-    let given = first .pre in
+    let first = begin (c .before) in
+    let (given, _) = first .pre in
     set-same _ (given .sound) _ (given .mission) (first .args .on) _ (given .named) (sym (on-list (c .before)) ∙ beq-same _ _ (c .if1 .taken))
 
 change-name-requires : tie.Need-change-name-requires
 change-name-requires c κs =
-    (c .before .before .before .before .before .before .before .before .pre, sym (on-list (c .before .before)) ∙ beq-other _ _ (c .before .if1 .left))
+    let asked = c .before .before .before in
+    let (given, indexed) = begin asked .pre in
+    (given, indexed, sym (on-list asked) ∙ beq-other _ _ (c .before .before .if1 .left))
 
 same-length-2 : tie.Need-same-length-2
 same-length-2 c = search needs
 
+same-length-3 : tie.Need-same-length-3
+same-length-3 c = search needs
+
 returns-2 : tie.Need-returns-2
-returns-2 c = c .before .before .change-name .ensures
+returns-2 c = c .before .before .before .before .change-name .ensures
 
 pub set-name-spec : {M : Type 1} → statement M
 set-name-spec =
-    tie.close (tie.spec walk-list-requires ends-requires same-length returns change-name-requires same-length-2 returns-2)
+    tie.close
+    (tie.spec walk-list-requires ends-requires same-length returns change-name-requires same-length-2 same-length-3 returns-2)

@@ -24,16 +24,16 @@ use Rattle.changing.proofs.paths.+path.Lts-path as lts
 use Rattle.changing.proofs.paths.+path.{statement}
 use Rattle.changing.proofs.paths.+path.Tie.{close}
 
-abbrev μ : Measures 2 kinds.ps ℕ
-μ κs a = length (a .1 .1 .0 .now)
+abbrev μ : Measures 3 kinds.ps ℕ
+μ κs a = length (a .1 .1 .1 .0 .now)
 
 module _ (bound : ℕ) where
   -- what is given at the measure, and what a call below it asks
-  abbrev at : In 2 kinds.ps
-  at = and 2 kinds.ps (is 2 kinds.ps μ bound) path.Pre
+  abbrev at : In 3 kinds.ps
+  at = and 3 kinds.ps (is 3 kinds.ps μ bound) path.Pre
 
-  abbrev below : In 2 kinds.ps
-  below = and 2 kinds.ps (falls 2 kinds.ps _<_ μ bound) path.Pre
+  abbrev below : In 3 kinds.ps
+  below = and 3 kinds.ps (falls 3 kinds.ps _<_ μ bound) path.Pre
 
   abbrev claims : lts.Claims
   claims = (
@@ -51,6 +51,9 @@ module _ (bound : ℕ) where
     path.Post,
   )
 
+  abbrev begin : lts.After-targets-of claims at path.Post → lts.Start claims at path.Post
+  begin c = c .before .before .before .before .before .before .before
+
   mark-of-requires : lts.Need-mark-of-requires claims at path.Post
   mark-of-requires c κs = search needs
 
@@ -62,21 +65,27 @@ module _ (bound : ℕ) where
 
   make-requires : lts.Need-make-requires claims at path.Post
   make-requires c κs =
-      let start = c .before .before .before .before .before .before .before .before .before in
-      let (tidy, named, _, _) = start .pre .1 in
-      rw (c .end-mark .ensures, c .before .before .before .targets-of .ensures) (tidy, end-fits _ tidy _ named (start .args .on))
+      let copied = c .before .before .before .before in
+      let start = begin copied in
+      let (tidy, indexed, named, _, _) = start .pre .1 in
+      rw (c .end-mark .ensures, copied .targets-of .ensures) (tidy, indexed, end-fits _ tidy _ named (start .args .on))
 
   same-length : lts.Need-same-length claims at path.Post
   same-length c = search needs
 
+  same-length-2 : lts.Need-same-length-2 claims at path.Post
+  same-length-2 c = search needs
+
   returns : lts.Need-returns claims at path.Post
   returns c =
-      let start = c .before .before .before .before .before .before .before .before .before .before .before .before in
-      let made = c .before .before in
-      let copied = made .before .before .before .before in
-      let (tidy, named, _, _) = start .pre .1 in
-      let none : start .args .name .now ≡ [] = sym (take-all 0 _ (omega arith)) in
-      rw none (rw (made .before .end-mark .ensures, copied .targets-of .ensures, end-words _ tidy _ named) at (made .make .ensures))
+      let made = c .before .before .before .before in
+      let copied = made .before .before .before .before .before in
+      let start = begin copied in
+      let (tidy, _, named, _, _) = start .pre .1 in
+      let none : start .args .name .now ≡ [] = sym (take-all 0 _ (omega arith)) in (
+        rw none (rw (made .before .end-mark .ensures, copied .targets-of .ensures, end-words _ tidy _ named) at (made .make .ensures .0)),
+        made .make .ensures .1,
+      )
 
   shared-slice-read-letter-of : lts.Need-shared-slice-read-letter-of claims at path.Post
   shared-slice-read-letter-of c = search needs
@@ -87,15 +96,15 @@ module _ (bound : ℕ) where
   -- the first letter, and what is asked of it
   first : (c : lts.After-letter-of claims at path.Post) → c .letter-of .result < letters
   first c =
-      let start = c .before .before .before .before .before .before .before .before .before in
-      let (_, _, spelled, _) = start .pre .1 in
+      let start = begin (c .before .before .before) in
+      let (_, _, _, spelled, _) = start .pre .1 in
       rw (c .letter-of .ensures) (spelled-rest (start .args .name .now) (omega arith) spelled .0)
 
   mul-path : lts.Need-mul-path claims at path.Post
-  mul-path c = let inside = first (c .before) in search needs
+  mul-path c = let inside = first (c .before .before) in search needs
 
   array-read-path : lts.Need-array-read-path claims at path.Post
-  array-read-path c = let inside = first (c .before) in search needs
+  array-read-path c = let inside = first (c .before .before) in search needs
 
   sub-path : lts.Need-sub-path claims at path.Post
   sub-path c = search needs
@@ -108,16 +117,19 @@ module _ (bound : ℕ) where
 
   path-requires : lts.Need-path-requires claims at path.Post
   path-requires c κs =
-      let start = c .before .before .before .before .before .before .before .before .before .before .before in
+      let here = c .before .before .before in
+      let copied = here .before .before .before in
+      let start = begin copied in
       let name = start .args .name .now in
-      let (tidy, named, spelled, short) = start .pre .1 in
+      let (tidy, indexed, named, spelled, short) = start .pre .1 in
       let some : 0 < length name = omega arith in
       let less : length (rest name) < bound = omega (arith, rest-length name some, start .pre .0) in
       let next = next-named _ tidy _ named (start .args .on) name some spelled short in (
         less,
         (
           tidy,
-          rw (c .before .before .before .before .before .targets-of .ensures, c .before .before .letter-of .ensures) next,
+          indexed,
+          rw (copied .targets-of .ensures, here .letter-of .ensures) next,
           spelled-rest name some spelled .1,
           omega arith,
         ),
@@ -129,49 +141,64 @@ module _ (bound : ℕ) where
   enum-told : lts.Need-enum-told claims at path.Post
   enum-told c = search needs
 
-  same-length-2 : lts.Need-same-length-2 claims at path.Post
-  same-length-2 c = search needs
-
-  returns-2 : lts.Need-returns-2 claims at path.Post
-  returns-2 c =
-      let called = c .before .before .before .before in
-      let here = called .before .before .before in
-      let copied = here .before .before .before in
-      let start = copied .before .before .before .before .before .before in
-      let (tidy, named, spelled, short) = start .pre .1 in
-      path-full _ tidy _ named (start .args .on) (start .args .name .now) (omega arith) spelled short _
-      (rw (c .enum-told .given .1, copied .targets-of .ensures, here .letter-of .ensures) at (called .path .ensures))
-
-  mul-targets : lts.Need-mul-targets claims at path.Post
-  mul-targets c = let inside = first (c .before .before .before .before .before .before .before .before) in search needs
-
-  array-write-targets : lts.Need-array-write-targets claims at path.Post
-  array-write-targets c = let inside = first (c .before .before .before .before .before .before .before .before) in search needs
-
-  make-requires-2 : lts.Need-make-requires-2 claims at path.Post
-  make-requires-2 c κs =
-      let called = c .before .before .before .before .before .before in
-      let here = called .before .before .before in
-      let copied = here .before .before .before in
-      let start = copied .before .before .before .before .before .before in
-      let (tidy, named, spelled, short) = start .pre .1 in
-      let made = rw (c .before .before .n .given .1, copied .targets-of .ensures, here .letter-of .ensures) at (called .path .ensures) in
-      rw (copied .before .before .mark-of .ensures, copied .targets-of .ensures, here .letter-of .ensures)
-      (made .grows .tidy, path-fits _ tidy _ named (start .args .on) (start .args .name .now) (omega arith) spelled short _ _ made)
-
   same-length-3 : lts.Need-same-length-3 claims at path.Post
   same-length-3 c = search needs
 
+  same-length-4 : lts.Need-same-length-4 claims at path.Post
+  same-length-4 c = search needs
+
+  returns-2 : lts.Need-returns-2 claims at path.Post
+  returns-2 c =
+      let called = c .before .before .before .before .before .before in
+      let here = called .before .before .before .before in
+      let copied = here .before .before .before in
+      let start = begin copied in
+      let (tidy, _, named, spelled, short) = start .pre .1 in (
+        path-full _ tidy _ named (start .args .on) (start .args .name .now) (omega arith) spelled short _
+            (rw (c .enum-told .given .1, copied .targets-of .ensures, here .letter-of .ensures) at (called .path .ensures .0)),
+        called .path .ensures .1,
+      )
+
+  mul-targets : lts.Need-mul-targets claims at path.Post
+  mul-targets c = let inside = first (c .before .before .before .before .before .before .before .before .before .before .before) in search needs
+
+  array-write-targets : lts.Need-array-write-targets claims at path.Post
+  array-write-targets c = let inside = first (c .before .before .before .before .before .before .before .before .before .before .before) in search needs
+
+  make-requires-2 : lts.Need-make-requires-2 claims at path.Post
+  make-requires-2 c κs =
+      let called = c .before .before .before .before .before .before .before .before .before in
+      let here = called .before .before .before .before in
+      let copied = here .before .before .before in
+      let start = begin copied in
+      let (tidy, _, named, spelled, short) = start .pre .1 in
+      let made = rw (c .before .before .before .n .given .1, copied .targets-of .ensures, here .letter-of .ensures) at (called .path .ensures .0) in
+      rw (copied .before .before .mark-of .ensures, copied .targets-of .ensures, here .letter-of .ensures) (
+        made .grows .tidy,
+        called .path .ensures .1,
+        path-fits _ tidy _ named (start .args .on) (start .args .name .now) (omega arith) spelled short _ _ made,
+      )
+
+  same-length-5 : lts.Need-same-length-5 claims at path.Post
+  same-length-5 c = search needs
+
+  same-length-6 : lts.Need-same-length-6 claims at path.Post
+  same-length-6 c = search needs
+
   returns-3 : lts.Need-returns-3 claims at path.Post
   returns-3 c =
-      let called = c .before .before .before .before .before .before .before .before .before in
-      let here = called .before .before .before in
+      let last = c .before .before .before .before in
+      let told = last .before .before .before in
+      let called = told .before .before .before .before .before .before .before in
+      let here = called .before .before .before .before in
       let copied = here .before .before .before in
-      let start = copied .before .before .before .before .before .before in
-      let (tidy, named, spelled, short) = start .pre .1 in
-      let made = rw (c .before .before .before .before .before .n .given .1, copied .targets-of .ensures, here .letter-of .ensures) at (called .path .ensures) in
-      path-made _ tidy _ named (start .args .on) (start .args .name .now) (omega arith) spelled short _ _ made (c .before .before .make2 .last .0) (c .before .before .make2 .result)
-      (rw (copied .before .before .mark-of .ensures, copied .targets-of .ensures, here .letter-of .ensures) at (c .before .before .make2 .ensures))
+      let start = begin copied in
+      let (tidy, _, named, spelled, short) = start .pre .1 in
+      let made = rw (told .before .n .given .1, copied .targets-of .ensures, here .letter-of .ensures) at (called .path .ensures .0) in (
+        path-made _ tidy _ named (start .args .on) (start .args .name .now) (omega arith) spelled short _ _ made (last .make2 .last .0) (last .make2 .result)
+            (rw (copied .before .before .mark-of .ensures, copied .targets-of .ensures, here .letter-of .ensures) at (last .make2 .ensures .0)),
+        last .make2 .ensures .1,
+      )
 
 pub +path-spec : {M : Type 1} → statement M
 +path-spec = close μ λ bound. lts.spec
@@ -183,6 +210,7 @@ pub +path-spec : {M : Type 1} → statement M
     (end-mark-requires bound)
     (make-requires bound)
     (same-length bound)
+    (same-length-2 bound)
     (returns bound)
     (shared-slice-read-letter-of bound)
     (letter-of-requires bound)
@@ -194,10 +222,12 @@ pub +path-spec : {M : Type 1} → statement M
     (path-requires bound)
     (enum-known-n bound)
     (enum-told bound)
-    (same-length-2 bound)
+    (same-length-3 bound)
+    (same-length-4 bound)
     (returns-2 bound)
     (mul-targets bound)
     (array-write-targets bound)
     (make-requires-2 bound)
-    (same-length-3 bound)
+    (same-length-5 bound)
+    (same-length-6 bound)
     (returns-3 bound)

@@ -22,7 +22,7 @@ use Rattle.rows.proofs.Facts.{no-row, target-named}
 use Rattle.rows.proofs.Words.{words-none}
 use Rattle.counting.specs.Ahead.{aheadBy}
 use Rattle.counting.specs.Counts.{countAt, Counts}
-use Rattle.counting.proofs.Ahead.{rank-empty, rank-few, rank-words, target-few, ahead-counts}
+use Rattle.counting.proofs.Ahead.{rank-empty, rank-few, rank-words, target-few, count-none, ahead-counts}
 use Rattle.letters.proofs.letter_of.Reads as letter-of
 use Rattle.rows.proofs.target.Reads as target-of
 use Rattle.counting.proofs.counts.words_ahead.Reads as words-ahead
@@ -83,9 +83,10 @@ module _ (bound : ℕ) where
 
   words-ahead-requires : lts.Need-words-ahead-requires claims at rank-from.Post
   words-ahead-requires c κs =
-      let counted = c .before .before .before .before .before .before .before .pre .1 .0 in
+      let start = c .before .before .before .before .before .before .before in
+      let counted = start .pre .1 .0 in
       let (used, letter, left) = begins c in
-      (counted .tidy, used, omega arith, counted .long)
+      (counted .tidy, used, omega arith, counted .long, count-none (start .args .t .now) (start .args .counts .now) counted)
 
   target-requires : lts.Need-target-requires claims at rank-from.Post
   target-requires c κs =

@@ -7,28 +7,34 @@ use Rattle.filling.proofs.combines.combine_lists.Statement.{statement}
 use Rattle.filling.proofs.combines.combine_lists.Tie as tie
 
 start-requires : tie.Need-start-requires
-start-requires c κs = let given = c .before .before .pre in start-inside _ (sound-length _ (given .sound)) _ (third _ _ _ _ _ given)
+start-requires c κs =
+    let (given, _) = c .before .before .before .pre in
+    start-inside _ (sound-length _ (given .sound)) _ (third _ _ _ _ _ given)
 
 same-length : tie.Need-same-length
 same-length c = search needs
 
 returns : tie.Need-returns
 returns c =
-    let given = c .before .before .before .before .pre in
+    let (given, _) = c .before .before .before .before .before .pre in
     combine-not-empty _ _ _ _ _ given (omega (arith, c .before .start .ensures))
 
 fill-combined-requires : tie.Need-fill-combined-requires
 fill-combined-requires c κs =
-    let given = c .before .before .before .before .before .pre in
-    (given, omega (arith, c .before .before .start .ensures))
+    let started = c .before .before .before in
+    let (given, indexed) = started .before .before .before .before .pre in
+    (given, indexed, omega (arith, started .start .ensures))
 
 same-length-2 : tie.Need-same-length-2
 same-length-2 c = search needs
 
+same-length-3 : tie.Need-same-length-3
+same-length-3 c = search needs
+
 returns-2 : tie.Need-returns-2
-returns-2 c = c .before .before .fill-combined .ensures
+returns-2 c = c .before .before .before .before .fill-combined .ensures
 
 pub combine-lists-spec : {M : Type 1} → statement M
 combine-lists-spec =
     tie.close
-    (tie.spec start-requires same-length returns fill-combined-requires same-length-2 returns-2)
+    (tie.spec start-requires same-length returns fill-combined-requires same-length-2 same-length-3 returns-2)

@@ -12,22 +12,25 @@ name-count-requires c κs = search needs
 
 cast-names : tie.Need-cast-names
 cast-names c =
-    let start = c .before .before .before in
+    let start = c .before .before .before .before in
     let few = list-few (start .args .list .now) (start .pre .0 .listed) in
     search needs
 
 build-list-requires : tie.Need-build-list-requires
 build-list-requires c κs =
-    let (given, _) = c .before .before .before .before .pre in
-    (sound-facts _ (given .sound) .tidy, given .listed)
+    let (given, indexed, _) = c .before .before .before .before .before .before .pre in
+    (sound-facts _ (given .sound) .tidy, indexed, given .listed)
 
 enum-known-r : tie.Need-enum-known-r
 enum-known-r c = search needs
 
+abbrev begin : tie.After-build-list → tie.Start
+begin c = c .before .before .before .before .before .before .before
+
 settle-requires : tie.Need-settle-requires
 settle-requires c κs =
-    let called = c .before .before .before .before .before .before in
-    let (given, empty) = called .before .before .before .before .before .pre in
+    let called = c .before .before .before .before .before .before .before .before in
+    let (given, _, empty) = begin called .pre in
     let made = rw (c .before .before .r .given .1) at (called .build-list .ensures) in
     (made .grows .tidy, omega (arith, given .mission), filled-startable (load-fills _ _ _ given empty) _ _ _ made)
 
@@ -39,30 +42,36 @@ enum-told c = search needs
 
 no-room-requires : tie.Need-no-room-requires
 no-room-requires c κs =
-    let called = c .before .before .before .before .before in
+    let called = c .before .before .before .before .before .before .before in
     let full = rw (c .before .enum-told .given .1) at (called .build-list .ensures) in
     full .grows .tidy
 
 same-length : tie.Need-same-length
 same-length c = search needs
 
+same-length-2 : tie.Need-same-length-2
+same-length-2 c = search needs
+
 returns : tie.Need-returns
 returns c =
     let settled = c .before .before .before in
-    let called = settled .before .before .before .before .before .before .before in
-    let (given, empty) = called .before .before .before .before .before .pre in
+    let called = settled .before .before .before .before .before .before .before .before .before in
+    let (given, _, empty) = begin called .pre in
     let made = rw (settled .before .before .before .r .given .1) at (called .build-list .ensures) in
-    rw (c .settled .ensures, called .before .before .name-count .ensures)
+    rw (c .settled .ensures, called .before .before .before .name-count .ensures)
     (filled-settled (load-fills _ _ _ given empty) _ _ _ made _ _ (settled .settle .ensures))
 
-same-length-2 : tie.Need-same-length-2
-same-length-2 c = search needs
+same-length-3 : tie.Need-same-length-3
+same-length-3 c = search needs
+
+same-length-4 : tie.Need-same-length-4
+same-length-4 c = search needs
 
 returns-2 : tie.Need-returns-2
 returns-2 c =
     let refused = c .before .before in
-    let called = refused .before .before .before .before .before .before in
-    let (given, empty) = called .before .before .before .before .before .pre in
+    let called = refused .before .before .before .before .before .before .before .before in
+    let (given, _, empty) = begin called .pre in
     let full = rw (refused .before .before .enum-told .given .1) at (called .build-list .ensures) in
     rw (refused .no-room .ensures .0) (filled-full (load-fills _ _ _ given empty) _ _ _ full (refused .no-room .ensures .1))
 
@@ -79,6 +88,8 @@ fill-list-spec =
     enum-told
     no-room-requires
     same-length
-    returns
     same-length-2
+    returns
+    same-length-3
+    same-length-4
     returns-2)

@@ -1,8 +1,8 @@
 -- `arcs_ok` meets its promise. The loop's invariant: the targets of the letters below `x` are fine, `top` is the greatest height that they ask
--- for, and the array points at them. A target that is neither 0 nor a row in use breaks the rule; after the loop the height and number 39
--- decide. The measure is the letters that are left. Assumes nothing.
-use Prim.Native.Nat.{ℕ, _+_, _-_, _≤_, _<_, max}
-use mathlib.Core.Path.{_≡_, refl, sym, _∙_}
+-- for, `m` is what they are mixed to for the key, and the array points at them. A target that is neither 0 nor a row in use breaks the rule; after the
+-- loop the height and number 39 decide. The measure is the letters that are left. Assumes nothing.
+use Prim.Native.Nat.{ℕ, suc, _+_, _-_, _≤_, _<_, max}
+use mathlib.Core.Path.{_≡_, refl, sym, ap, _∙_}
 use mathlib.Core.Bool.{Bool, true, false, _&&_, _||_, and-false}
 use mathlib.Core.List.{List}
 use native.Mathlib.Numerals.{add-one}
@@ -15,13 +15,18 @@ use Rattle.letters.specs.Letters.{letters}
 use Rattle.letters.specs.Names.{longest}
 use Rattle.sets.specs.Below.{allBelow, someBelow, greatest}
 use Rattle.sets.proofs.Below.{not-all-below}
-use Rattle.rows.specs.Table.{Table, height, target, inUse}
+use Rattle.rows.specs.Table.{Table, mostRows, mark, height, target, inUse}
 use Rattle.rows.specs.Rules.{above, lastOk, arcsOk}
 use Rattle.rules.specs.declared.arcs.Asked.the-variants.{Height, Broken}
 use Rattle.rules.specs.Asked.{asksIf, asks}
+use Rattle.rows.specs.Skips.{Arcless}
+use Rattle.index.specs.Buckets.{radix, mixed, mix, keyFrom, rowKey}
+use Rattle.index.proofs.Buckets.{mix-none, mix-more, mix-zero}
+use Rattle.index.proofs.Keeping.{keyed-more}
 use Rattle.rules.specs.Pointed.{Pointed}
 use Rattle.sets.proofs.Loops.{all-more}
-use Rattle.rules.proofs.Writes.{points-nowhere, points-at-both, not-passed}
+use Rattle.rows.proofs.Skipping.{skips}
+use Rattle.rules.proofs.Writes.{points-nowhere, points-at-both, not-passed, keyed-if, not-keyed}
 use Rattle.rules.proofs.arcs.arcs_ok.Statement.{statement}
 use Rattle.rules.proofs.arcs.arcs_ok.Tie as tie
 
@@ -35,53 +40,87 @@ asks-broken true top e = cc
 asks-broken false top e = refl
 
 -- the letters below x are followed
-record Followed (t : Table) (r x top : ℕ) (p q : List ℕ) : Type 0 where
+record Followed (t : Table) (r x top m : ℕ) (p q : List ℕ) : Type 0 where
   fine : allBelow x (λ y. eqb (target t r y) 0 || inUse t (target t r y)) ≡ true
   asked : top ≡ greatest x (λ y. above t (target t r y))
+  mixes : m ≡ mix (mark t r) (λ y. target t r y) x
+  small : m < radix
   points : Pointed (λ s. someBelow x (λ y. eqb (target t r y) s)) p q
 
 module _ (t : Table) (r : ℕ) where
-  followed-none : (p : List ℕ) → Followed t r 0 0 p p
+  followed-none : (m : ℕ) (p : List ℕ) → m ≡ mark t r → m < radix → Followed t r 0 0 m p p
   unfolding allBelow someBelow greatest
-  followed-none p = record { fine = refl; asked = refl; points = points-nowhere (λ s. refl) }
+  followed-none m p e small = record { fine = refl; asked = refl; mixes = e ∙ mix-none _ _; small = small; points = points-nowhere (λ s. refl) }
 
   -- a fine target above 0 is a row in use
   used-target : (n s : ℕ) → (eqb n 0 || inUse t n) ≡ true → 0 < s → (inUse t n && eqb n s) ≡ eqb n s
   used-target n s fine h =
       elim (ℕ-discrete n 0) [ yes e ↦ rw (e, ne-eqb 0 s (λ d. omega arith)) | no e ↦ rw (rw (ne-eqb n 0 e) at fine) ]
 
-  followed-more : {x n top h : ℕ} {p q q′ : List ℕ} → Followed t r x top p q → n ≡ target t r x → asks t n ≡ Height h
-      → Pointed (λ s. inUse t n && eqb n s) q q′ → Followed t r (x + 1) (max top h) p q′
+  followed-more : {x n top h m m′ : ℕ} {p q q′ : List ℕ} → Followed t r x top m p q → n ≡ target t r x → asks t n ≡ Height h
+      → Pointed (λ s. inUse t n && eqb n s) q q′ → m′ ≡ mixed m x n → m′ < radix → Followed t r (x + 1) (max top h) m′ p q′
   unfolding allBelow someBelow greatest
-  followed-more {x} {n} {top} {h} before at e one =
+  followed-more {x} {n} {top} {h} before at e one given small =
       let (fine, higher) = asks-height (eqb n 0 || inUse t n) (above t n) h e in
       record {
         fine = all-more _ x (before .fine) (rw at at fine);
         asked = rw (add-one, before .asked, higher, at);
+        mixes = rw add-one (given ∙ rw (before .mixes, at) (mix-more _ (λ y. target t r y) x));
+        small = small;
         points = points-at-both (before .points) one (λ s positive. rw (add-one, used-target n s fine positive, at));
       }
+
+  -- a letter without a target changes nothing
+  followed-zero : {top m : ℕ} {p q : List ℕ} (x : ℕ) → target t r x ≡ 0 → Followed t r x top m p q → Followed t r (suc x) top m p q
+  unfolding allBelow someBelow greatest
+  followed-zero x none before =
+      record {
+        fine = rw (before .fine, none);
+        asked = rw none (omega (arith, before .asked));
+        mixes = before .mixes ∙ sym (mix-zero _ (λ y. target t r y) x none);
+        small = before .small;
+        points = points-at-both {second = λ s. false} (before .points) (points-nowhere (λ s. refl)) (λ s positive.
+            rw (none, ne-eqb 0 s (λ d. omega arith)));
+      }
+
+  followed-skip : {y e top m : ℕ} {p q : List ℕ} → Followed t r y top m p q → Arcless t r y e → Followed t r e top m p q
+  followed-skip {y} {e} {top} {m} {p} {q} before a = skips t r (λ x. Followed t r x top m p q) followed-zero y e a before
 
   arcs-broken : (x n : ℕ) → x < letters → n ≡ target t r x → asks t n ≡ Broken → arcsOk t r ≡ false
   arcs-broken x n h at e = rw (not-all-below _ letters x h (rw at at (asks-broken (eqb n 0 || inUse t n) (above t n) e)))
 
-  arcs-left : {top : ℕ} {p q : List ℕ} → Followed t r letters top p q
+  arcs-left : {top m : ℕ} {p q : List ℕ} → Followed t r letters top m p q
       → arcsOk t r ≡ (eqb (height t r) top && leb (height t r) longest && lastOk t r)
   arcs-left all = rw (all .fine, ← all .asked)
 
 abbrev Inv-loop : tie.InvT-loop
-Inv-loop t r pointed₀ top₀ x₀ pointed top x = (x ≤ letters) × Followed t r x top pointed₀ pointed
+Inv-loop t r pointed₀ index top₀ m₀ x₀ pointed top m x = (x ≤ letters) × Followed t r x top m pointed₀ pointed
 
 abbrev μ-loop : tie.MeasureT-loop
-μ-loop t r pointed₀ top₀ x₀ pointed top x = letters - x
+μ-loop t r pointed₀ index top₀ m₀ x₀ pointed top m x = letters - x
+
+mark-requires : tie.Need-mark-requires Inv-loop μ-loop
+mark-requires c κs = search needs
+
+cast-m : tie.Need-cast-m Inv-loop μ-loop
+cast-m c = search needs
+
+next-arc-requires : tie.Need-next-arc-requires Inv-loop μ-loop
+next-arc-requires c κs = search needs
+
+abbrev start : (c : tie.At-loop Inv-loop μ-loop) → tie.Start Inv-loop μ-loop
+start c = c .before .before .before .before .before .before
 
 loop-holds : tie.Need-loop-holds Inv-loop μ-loop
-loop-holds c = (omega arith, followed-none _ _ _)
+loop-holds c =
+    let marked = c .before in
+    (c .next-arc .ensures .to, followed-skip _ _ (followed-none _ _ _ _ (marked .mark .ensures) (omega arith)) (c .next-arc .ensures))
 
 target-requires : tie.Need-target-requires Inv-loop μ-loop
 target-requires c κs = search needs
 
-cast-n : tie.Need-cast-n Inv-loop μ-loop
-cast-n c = search needs
+cast-follow : tie.Need-cast-follow Inv-loop μ-loop
+cast-follow c = search needs
 
 follow-requires : tie.Need-follow-requires Inv-loop μ-loop
 follow-requires c κs = search needs
@@ -99,42 +138,53 @@ returns : tie.Need-returns Inv-loop μ-loop
 returns c =
     let called = c .before .before .before .before in
     let there = called .before .before in
-    let l = there .before .before .loop in
-    let args = there .before .before .before .before .before .args in
-    let broken = sym (called .follow .ensures .0) ∙ c .enum-told .given .1 in
-    not-passed (sym (arcs-broken (args .t .now) (args .r) (l .x) _ (omega arith) (there .target .ensures) broken)) (omega arith)
+    let at-loop = there .before .before in
+    let begin = start at-loop in
+    let broken = sym (called .follow .ensures .0) ∙ c .enum-told .given .1 in (
+      not-passed (sym (arcs-broken (begin .args .t .now) (begin .args .r) (at-loop .loop .x) _ (omega arith) (there .target .ensures) broken)) (omega arith),
+      not-keyed (begin .pre .3 .keys .long),
+    )
 
 higher-requires : tie.Need-higher-requires Inv-loop μ-loop
 higher-requires c κs = search needs
 
-add-x : tie.Need-add-x Inv-loop μ-loop
-add-x c = search needs
+mixed-requires : tie.Need-mixed-requires Inv-loop μ-loop
+mixed-requires c κs = search needs
+
+add-next-arc : tie.Need-add-next-arc Inv-loop μ-loop
+add-next-arc c = search needs
+
+next-arc-requires-2 : tie.Need-next-arc-requires-2 Inv-loop μ-loop
+next-arc-requires-2 c κs = search needs
 
 loop-less : tie.Need-loop-less Inv-loop μ-loop
 loop-less c = search needs
 
 loop-again : tie.Need-loop-again Inv-loop μ-loop
 loop-again c =
-    let called = c .before .before .before .before .before .before in
+    let told = c .before .before .before in
+    let called = told .before .before .before .before .before in
     let at-loop = called .before .before .before .before in (
-      omega arith,
-      rw (c .higher .ensures)
+      c .next-arc2 .ensures .to,
+      rw (c .before .before .higher .ensures)
+          (followed-skip _ _
           (followed-more _ _ (at-loop .loop .inv .1) (called .before .before .target .ensures)
-          (sym (called .follow .ensures .0) ∙ c .before .before .h .given .1) (called .follow .ensures .1)),
+          (sym (called .follow .ensures .0) ∙ told .before .h .given .1) (called .follow .ensures .1) (c .before .mixed .ensures .0) (c .before .mixed .ensures .1))
+          (c .next-arc2 .ensures)),
     )
 
 -- after the loop all letters are followed; what is left then is to compare the height, and number 39
 all-followed : (c : tie.After-loop Inv-loop μ-loop) →
     let l = c .before .loop in
-    let args = c .before .before .before .before .args in
-    Followed (args .t .now) (args .r) letters (l .top) (args .pointed .now) (l .pointed)
+    let args = start (c .before) .args in
+    Followed (args .t .now) (args .r) letters (l .top) (l .m) (args .pointed .now) (l .pointed)
 all-followed c =
     let all : c .before .loop .x ≡ letters = omega arith in
     rw all at (c .before .loop .inv .1)
 
 left : (c : tie.After-height Inv-loop μ-loop) →
     let l = c .before .before .loop in
-    let args = c .before .before .before .before .before .args in
+    let args = start (c .before .before) .args in
     arcsOk (args .t .now) (args .r) ≡ (eqb (c .height .result) (l .top) && leb (c .height .result) longest && lastOk (args .t .now) (args .r))
 left c = arcs-left _ _ (all-followed (c .before)) ∙ rw (c .height .ensures)
 
@@ -151,7 +201,7 @@ returns-2 : tie.Need-returns-2 Inv-loop μ-loop
 returns-2 c =
     let called = c .before in
     let differ = ne-eqb (called .height .result) (called .before .before .loop .top) (λ e. omega arith) in
-    not-passed (rw (left called, differ)) (omega arith)
+    (not-passed (rw (left called, differ)) (omega arith), not-keyed (start (called .before .before) .pre .3 .keys .long))
 
 same-length-3 : tie.Need-same-length-3 Inv-loop μ-loop
 same-length-3 c = search needs
@@ -160,7 +210,15 @@ returns-3 : tie.Need-returns-3 Inv-loop μ-loop
 returns-3 c =
     let called = c .before .before in
     let high = lt-leb (called .height .result) longest (omega arith) in
-    not-passed (rw (left called, high, and-false)) (omega arith)
+    (not-passed (rw (left called, high, and-false)) (omega arith), not-keyed (start (called .before .before) .pre .3 .keys .long))
+
+key-from-requires : tie.Need-key-from-requires Inv-loop μ-loop
+key-from-requires c κs = search needs
+
+keep-key-requires : tie.Need-keep-key-requires Inv-loop μ-loop
+keep-key-requires c κs =
+    let begin = start (c .before .before .before .before .before .before) in
+    (omega (arith, begin .pre .2), begin .pre .3 .keys .long)
 
 last-requires : tie.Need-last-requires Inv-loop μ-loop
 last-requires c κs = search needs
@@ -168,16 +226,26 @@ last-requires c κs = search needs
 same-length-4 : tie.Need-same-length-4 Inv-loop μ-loop
 same-length-4 c = search needs
 
+same-length-5 : tie.Need-same-length-5 Inv-loop μ-loop
+same-length-5 c = search needs
+
 returns-4 : tie.Need-returns-4 Inv-loop μ-loop
 returns-4 c =
-    let called = c .before .before .before in
+    let kept = c .before .before .before in
+    let called = kept .before .before .before .before .before in
+    let begin = start (called .before .before) in
+    let t = begin .args .t .now in
+    let key : kept .before .key-from .result ≡ rowKey t (begin .args .r) =
+    kept .before .key-from .ensures ∙ ap (λ (m : ℕ). keyFrom m) (all-followed (called .before) .mixes) in
     let same = eq-eqb (called .height .result) (called .before .before .loop .top) (omega arith) in
-    let low = le-leb (called .height .result) longest (omega arith) in
-    record {
-      says = rw (left called, same, low, c .last .ensures);
-      long = omega arith;
-      points = λ _. all-followed (called .before) .points;
-    }
+    let low = le-leb (called .height .result) longest (omega arith) in (
+      record {
+        says = rw (left called, same, low, c .last .ensures);
+        long = omega arith;
+        points = λ _. all-followed (called .before) .points;
+      },
+      rw (kept .keep-key .ensures, key) (keyed-if (keyed-more t (begin .args .r) (begin .args .index .now) (begin .pre .3) (omega (arith, begin .pre .2)))),
+    )
 
 pub arcs-ok-spec : {M : Type 1} → statement M
 arcs-ok-spec =
@@ -185,16 +253,21 @@ arcs-ok-spec =
     (tie.spec
     Inv-loop
     μ-loop
+    mark-requires
+    cast-m
+    next-arc-requires
     loop-holds
     target-requires
-    cast-n
+    cast-follow
     follow-requires
     enum-known-h
     enum-told
     same-length
     returns
     higher-requires
-    add-x
+    mixed-requires
+    add-next-arc
+    next-arc-requires-2
     loop-less
     loop-again
     height-requires
@@ -203,6 +276,9 @@ arcs-ok-spec =
     returns-2
     same-length-3
     returns-3
+    key-from-requires
+    keep-key-requires
     last-requires
     same-length-4
+    same-length-5
     returns-4)

@@ -1,5 +1,5 @@
--- `rule3` meets its promise. The loop's invariant: the rows below `r` pass, and the array points at their targets. The measure is the rows that
--- are left. Assumes nothing.
+-- `rule3` meets its promise. The loop's invariant: the rows below `r` pass, the array points at their targets, and the index has their keys. The measure is
+-- the rows that are left. Assumes nothing.
 use Prim.Native.Nat.{ℕ, _-_, _≤_, max}
 use mathlib.Core.Path.{_≡_, refl, sym, _∙_}
 use mathlib.Core.Bool.{true}
@@ -13,9 +13,11 @@ use Rattle.sets.specs.Below.{allBelow, someBelow}
 use Rattle.sets.proofs.Below.{not-all-below}
 use Rattle.rows.specs.Table.{Table, rowCount}
 use Rattle.rows.specs.Rules.{ifUsed, arcsOk, rule3}
+use Rattle.index.specs.Index.{Keyed}
+use Rattle.index.proofs.Keeping.{keyed-skip, keyed-less}
 use Rattle.rules.specs.Pointed.{Pointed, targetOfBelow}
 use Rattle.sets.proofs.Loops.{all-more, all-done}
-use Rattle.rules.proofs.Writes.{points-nowhere, points-at-both, not-passed}
+use Rattle.rules.proofs.Writes.{points-nowhere, points-at-both, not-passed, keyed-if, not-keyed}
 use Rattle.rules.proofs.arcs.rule3.Statement.{statement}
 use Rattle.rules.proofs.arcs.rule3.Tie as tie
 
@@ -33,32 +35,38 @@ all-rows t k r past near d =
     ]
 
 abbrev Inv-loop : tie.InvT-loop
-Inv-loop t pointed₀ k r₀ pointed r =
-    (r ≤ max k 1) × (allBelow r (λ s. ifUsed t s (arcsOk t s)) ≡ true) × Pointed (λ s. targetOfBelow t r s) pointed₀ pointed
+Inv-loop t pointed₀ index₀ k r₀ pointed index r =
+    (r ≤ max k 1) × (allBelow r (λ s. ifUsed t s (arcsOk t s)) ≡ true) × Pointed (λ s. targetOfBelow t r s) pointed₀ pointed × Keyed t r index
 
 abbrev μ-loop : tie.MeasureT-loop
-μ-loop t pointed₀ k r₀ pointed r = k - r
+μ-loop t pointed₀ index₀ k r₀ pointed index r = k - r
 
 row-count-requires : tie.Need-row-count-requires Inv-loop μ-loop
 row-count-requires c κs = search needs
 
 loop-holds : tie.Need-loop-holds Inv-loop μ-loop
 unfolding allBelow someBelow
-loop-holds c = (omega arith, refl, points-nowhere (λ s. refl))
+loop-holds c = (omega arith, refl, points-nowhere (λ s. refl), keyed-skip (c .before .before .before .before .pre .2) (λ u. omega (arith, u .positive)))
 
 row-ok-requires : tie.Need-row-ok-requires Inv-loop μ-loop
-row-ok-requires c κs = search needs
+row-ok-requires c κs =
+    let at-loop = c .before .before .before in
+    let begin = at-loop .before .before .before .before .before in
+    (search needs, begin .pre .1, at-loop .loop .inv .3)
 
 same-length : tie.Need-same-length Inv-loop μ-loop
 same-length c = search needs
 
+same-length-2 : tie.Need-same-length-2 Inv-loop μ-loop
+same-length-2 c = search needs
+
 returns : tie.Need-returns Inv-loop μ-loop
 unfolding rule3
 returns c =
-    let called = c .before .before .before in
-    let l = called .before .before .before .loop in
-    let refused = sym (called .row-ok .ensures .says) ∙ not-true (called .row-ok .result) (c .if1 .taken) in
-    not-passed (sym (not-all-below _ _ (l .r) (omega arith) refused)) (omega arith)
+    let called = c .before .before .before .before .before in
+    let l = called .before .before .before .before .loop in
+    let refused = sym (called .row-ok .ensures .0 .says) ∙ not-true (called .row-ok .result) (c .if1 .taken) in
+    (not-passed (sym (not-all-below _ _ (l .r) (omega arith) refused)) (omega arith), not-keyed (called .row-ok .ensures .1 .long))
 
 add-r : tie.Need-add-r Inv-loop μ-loop
 add-r c = search needs
@@ -69,27 +77,33 @@ loop-less c = search needs
 loop-again : tie.Need-loop-again Inv-loop μ-loop
 unfolding someBelow
 loop-again c =
-    let called = c .before .before .before in
-    let l = called .before .before .before .loop in
+    let called = c .before .before .before .before .before in
+    let l = called .before .before .before .before .loop in
     let passed = not-false (called .row-ok .result) (c .if1 .left) in (
       omega arith,
-      all-more _ (l .r) (l .inv .1) (sym (called .row-ok .ensures .says) ∙ passed),
-      points-at-both (l .inv .2) (called .row-ok .ensures .points passed) (λ s h. rw add-one),
+      all-more _ (l .r) (l .inv .1) (sym (called .row-ok .ensures .0 .says) ∙ passed),
+      points-at-both (l .inv .2) (called .row-ok .ensures .0 .points passed) (λ s h. rw add-one),
+      rw add-one (called .row-ok .ensures .1 .passed passed),
     )
 
-same-length-2 : tie.Need-same-length-2 Inv-loop μ-loop
-same-length-2 c = search needs
+same-length-3 : tie.Need-same-length-3 Inv-loop μ-loop
+same-length-3 c = search needs
+
+same-length-4 : tie.Need-same-length-4 Inv-loop μ-loop
+same-length-4 c = search needs
 
 returns-2 : tie.Need-returns-2 Inv-loop μ-loop
 unfolding rule3
 returns-2 c =
     let l = c .before .loop in
-    let t = c .before .before .before .before .before .args .t .now in
-    record {
-      says = sym (all-done _ (l .r) (rowCount t) (l .inv .1) (omega arith));
-      long = l .inv .2 .long;
-      points = λ _. all-rows t (rowCount t) (l .r) (omega arith) (omega arith) (l .inv .2);
-    }
+    let t = c .before .before .before .before .before .before .args .t .now in (
+      record {
+        says = sym (all-done _ (l .r) (rowCount t) (l .inv .1) (omega arith));
+        long = l .inv .2 .long;
+        points = λ _. all-rows t (rowCount t) (l .r) (omega arith) (omega arith) (l .inv .2);
+      },
+      keyed-if (keyed-less (rowCount t) (omega arith) (l .inv .3)),
+    )
 
 pub rule3-spec : {M : Type 1} → statement M
 rule3-spec =
@@ -101,9 +115,11 @@ rule3-spec =
     loop-holds
     row-ok-requires
     same-length
+    same-length-2
     returns
     add-r
     loop-less
     loop-again
-    same-length-2
+    same-length-3
+    same-length-4
     returns-2)

@@ -1,17 +1,20 @@
--- `rest_ok` meets its promise. The loop's invariant: the numbers below `i` pass. The measure is what is left of the head. Assumes nothing.
-use Prim.Native.Nat.{ℕ, _-_, _≤_}
-use mathlib.Core.Path.{_≡_, sym}
-use mathlib.Core.Bool.{Bool, true, _||_}
+-- `rest_ok` meets its promise: the first number behind the starts that is not 0 is behind the head exactly if they are all 0. Assumes nothing.
+use Prim.Native.Nat.{ℕ, _≤_}
+use mathlib.Core.Path.{_≡_, sym, _∙_}
+use mathlib.Core.Bool.{Bool, true, _||_, or-true}
+use mathlib.Core.Logic.{inl, inr}
+use native.Mathlib.Decide.{ℕ-discrete}
 use native.Mathlib.Omega.{arith}
 use borrow.Author.Needs.{needs}
-use borrow.Author.Tests.{le-ltb, ne-eqb}
+use borrow.Author.Tests.{eq-eqb, eqb-true, lt-ltb, le-ltb}
 use lib.Dec.{eqb, ltb}
 use lib.ListN.{getD}
-use Rattle.sets.specs.Below.{allBelow}
-use Rattle.sets.proofs.Below.{not-all-below}
+use Rattle.sets.proofs.Below.{tests-agree, all-below, below-all}
 use Rattle.model.specs.Lists.{missions}
 use Rattle.rows.specs.Table.{Table, width}
-use Rattle.sets.proofs.Loops.{all-more, all-done}
+use Rattle.rows.specs.Rules.{restOk}
+use Rattle.rows.specs.Skips.{Skipped}
+use Rattle.rows.proofs.Skipping.{lower-or-not}
 use Rattle.rules.proofs.head.rest_ok.Statement.{statement}
 use Rattle.rules.proofs.head.rest_ok.Tie as tie
 
@@ -19,56 +22,32 @@ use Rattle.rules.proofs.head.rest_ok.Tie as tie
 abbrev zero : Table → ℕ → Bool
 zero t i = ltb i missions || eqb (getD t i 0) 0
 
-abbrev Inv-loop : tie.InvT-loop
-Inv-loop t i₀ i = (missions ≤ i) × (allBelow i (zero t) ≡ true)
+skipped-rest : (t : Table) (e : ℕ) → Skipped t missions width e → eqb e width ≡ restOk t
+skipped-rest t e d = tests-agree _ _ all none
+  where
+    all : eqb e width ≡ true → restOk t ≡ true
+    all h =
+        let over = eqb-true e width h in
+        below-all (zero t) width (λ i k.
+        elim (lower-or-not i missions) [
+          | inl start ↦ rw (lt-ltb i missions start)
+          | inr rest ↦ rw (eq-eqb (getD t i 0) 0 (d .before .zeros i rest (omega arith)), or-true)
+        ])
 
-abbrev μ-loop : tie.MeasureT-loop
-μ-loop t i₀ i = width - i
+    none : restOk t ≡ true → eqb e width ≡ true
+    none h =
+        elim (ℕ-discrete e width) [
+          | yes over ↦ eq-eqb e width over
+          | no early ↦
+              let fine = rw (le-ltb e missions (d .before .from)) at (all-below (zero t) width h e (omega (arith, d .to))) in
+              absurd (omega (arith, d .stops (omega (arith, d .to)), eqb-true (getD t e 0) 0 fine))
+        ]
 
-loop-holds : tie.Need-loop-holds Inv-loop μ-loop
-unfolding allBelow
-loop-holds c = search needs
+past-zeros-requires : tie.Need-past-zeros-requires
+past-zeros-requires c κs = search needs
 
-mul-if1 : tie.Need-mul-if1 Inv-loop μ-loop
-mul-if1 c = search needs
-
-shared-slice-read-if1 : tie.Need-shared-slice-read-if1 Inv-loop μ-loop
-shared-slice-read-if1 c = search needs
-
-returns : tie.Need-returns Inv-loop μ-loop
-returns c =
-    let l = c .before .before .before .loop in
-    let t = c .before .before .before .before .args .t .now in
-    sym (not-all-below (zero t) width (l .i) (omega arith) (rw (le-ltb (l .i) missions (omega arith), ne-eqb (getD t (l .i) 0) 0 (c .if1 .taken))))
-
-add-i : tie.Need-add-i Inv-loop μ-loop
-add-i c = search needs
-
-loop-less : tie.Need-loop-less Inv-loop μ-loop
-loop-less c = search needs
-
-loop-again : tie.Need-loop-again Inv-loop μ-loop
-loop-again c =
-    let l = c .before .before .before .loop in
-    let t = c .before .before .before .before .args .t .now in
-    (omega arith, all-more (zero t) (l .i) (l .inv .1) (rw (le-ltb (l .i) missions (omega arith), c .if1 .left)))
-
-returns-2 : tie.Need-returns-2 Inv-loop μ-loop
-returns-2 c =
-    let l = c .before .loop in
-    sym (all-done (zero (c .before .before .args .t .now)) (l .i) width (l .inv .1) (omega arith))
+returns : tie.Need-returns
+returns c = skipped-rest (c .before .before .args .t .now) _ (c .past-zeros .ensures)
 
 pub rest-ok-spec : {M : Type 1} → statement M
-rest-ok-spec =
-    tie.close
-    (tie.spec
-    Inv-loop
-    μ-loop
-    loop-holds
-    mul-if1
-    shared-slice-read-if1
-    returns
-    add-i
-    loop-less
-    loop-again
-    returns-2)
+rest-ok-spec = tie.close (tie.spec past-zeros-requires returns)

@@ -13,10 +13,10 @@ use Rattle.rules.proofs.twins.rule6.Statement.{statement}
 use Rattle.rules.proofs.twins.rule6.Tie as tie
 
 abbrev Inv-loop : tie.InvT-loop
-Inv-loop t k s₀ s = allBelow s (λ r. ifUsed t r (not (hasTwin t r))) ≡ true
+Inv-loop t index k s₀ s = allBelow s (λ r. ifUsed t r (not (hasTwin t r))) ≡ true
 
 abbrev μ-loop : tie.MeasureT-loop
-μ-loop t k s₀ s = k - s
+μ-loop t index k s₀ s = k - s
 
 row-count-requires : tie.Need-row-count-requires Inv-loop μ-loop
 row-count-requires c κs = search needs

@@ -1,49 +1,26 @@
--- `settle` meets its promise. Where the rows reached with the new start are more than the room, the old start is set again, and that is the
--- table as it was; so what is swept is the table with the new start, or the table as it was, as the test says. That is the test of the lists.
--- Assumes nothing.
+-- `settle` meets its promise. If the rows reached with the new start fit, the others are freed; else the old start is set again, and that is the
+-- table as it was, which is swept. That they fit is the test of the lists. Assumes nothing.
 use Prim.Native.Nat.{ℕ}
-use mathlib.Core.Path.{_≡_, _∙_, ap}
-use mathlib.Core.Bool.{Bool, cond}
-use mathlib.Core.Logic.{inl, inr}
-use lib.Dec.{leb}
-use lib.ListN.{length}
+use mathlib.Core.Path.{_≡_, sym, ap, _∙_}
+use mathlib.Core.Bool.{Bool, true, false, cond}
 use borrow.Author.Needs.{needs}
-use borrow.Author.Tests.{not-true, not-false}
 use Rattle.rows.specs.Table.{Table}
 use Rattle.rows.specs.Words.{words}
-use Rattle.rows.specs.Tidy.{Tidy}
 use Rattle.rows.specs.Reach.{swept}
 use Rattle.settling.specs.Settled.{withStart, fits}
-use Rattle.settling.proofs.Swept.{only-length}
-use Rattle.settling.proofs.Settling.{start-back, start-tidy, either-long, either-tidy, start-says}
+use Rattle.settling.proofs.Settling.{start-back, start-tidy, start-says}
 use Rattle.settling.proofs.settles.settle.Statement.{statement}
 use Rattle.settling.proofs.settles.settle.Tie as tie
-use Rattle.settling.proofs.settles.settle.Reads as reads
-use Rattle.settling.proofs.settles.settle.Lts as lts
-use Rattle.rows.proofs.room.Reads as room-reads
-use Rattle.rows.proofs.start.Reads as start-reads
-use Rattle.settling.proofs.settles.set_start.Reads as set-start-reads
-use Rattle.settling.proofs.spreads.reached.Reads as reached-reads
-use Rattle.settling.proofs.sweeps.sweep.Reads as sweep-reads
 
-abbrev claims : lts.Claims
-claims = (
-  start-reads.Asked,
-  start-reads.Learnt,
-  set-start-reads.Asked,
-  set-start-reads.Learnt,
-  reached-reads.Asked,
-  reached-reads.Learnt,
-  room-reads.Asked,
-  room-reads.Learnt,
-  sweep-reads.Asked,
-  sweep-reads.Learnt,
-)
+swept-then : {v w after : Table} (done : Bool) → after ≡ cond done (swept v) v → done ≡ true → v ≡ w → after ≡ swept w
+swept-then done e h same = e ∙ rw (h, same)
 
--- where the arms meet: what is swept
-module _ (c : lts.Joined1 claims reads.Pre reads.Post) where
-  abbrev entry : lts.Start claims reads.Pre reads.Post
-  entry = c .before .before .before .before .before .before .before .before .before .before .before .before
+kept-then : {v w after : Table} (done : Bool) → after ≡ cond done (swept v) v → done ≡ false → v ≡ w → after ≡ w
+kept-then done e h same = e ∙ rw (h, same)
+
+module _ (c : tie.After-sweep-if-fits) where
+  abbrev entry : tie.Start
+  entry = c .before .before .before .before .before .before .before .before .before
 
   abbrev t : Table
   t = entry .args .t .now
@@ -54,30 +31,22 @@ module _ (c : lts.Joined1 claims reads.Pre reads.Post) where
   abbrev r : ℕ
   r = entry .args .r
 
-  abbrev fit : Bool
-  fit = leb (c .before .before .before .reached .result) (c .before .room .result)
+  new : c .before .before .before .before .set-start .last .0 ≡ withStart t m r
+  new = c .before .before .before .before .set-start .ensures
 
-  new : c .before .before .before .before .before .before .before .set-start .last .0 ≡ withStart t m r
-  new = c .before .before .before .before .before .before .before .set-start .ensures
+  says : c .sweep-if-fits .result ≡ fits t m (words t r)
+  says = c .sweep-if-fits .ensures .says ∙ start-says t m r (entry .pre .0) (entry .pre .1) (entry .pre .2) new
 
-  chosen : c .if1 .t ≡ cond fit (withStart t m r) t
-  chosen =
-      let old = c .before .before .before .before .before .before .before .before .before .start .ensures in
-      elim (c .if1 .came) [
-        | inl w ↦ rw (not-true fit (w .0 .taken)) (w .5 ∙ (w .2 .ensures ∙ start-back t _ m r _ new old))
-        | inr w ↦ rw (not-false fit (w .0 .left)) (w .1 ∙ new)
-      ]
+-- where they do not fit: the table as it was
+abbrev tried : (c : tie.After-set-start2) → tie.After-sweep-if-fits
+tried c = c .before .before .before .before .before
 
-  chosen-tidy : Tidy (c .if1 .t)
-  chosen-tidy = rw chosen (either-tidy t m r (entry .pre .0) (entry .pre .1) (entry .pre .2) fit)
-
-  chosen-long : length (c .if1 .t) ≡ length t
-  chosen-long = ap length chosen ∙ either-long t m r fit
-
-  fit-lists : fit ≡ fits t m (words t r)
-  fit-lists =
-      start-says t m r (entry .pre .0) (entry .pre .1) (entry .pre .2) _ _ _ new
-      (c .before .before .before .reached .ensures) (c .before .room .ensures)
+back : (c : tie.After-set-start2) → c .set-start2 .last .0 ≡ t (tried c)
+back c =
+    let called = tried c in
+    let same = kept-then _ (called .sweep-if-fits .ensures .table) (c .before .before .if1 .left) (new called) in
+    let old = called .before .before .before .before .before .before .start .ensures in
+    c .set-start2 .ensures ∙ start-back (t called) _ (m called) (r called) _ same old
 
 start-requires : tie.Need-start-requires
 start-requires c κs = search needs
@@ -85,29 +54,39 @@ start-requires c κs = search needs
 set-start-requires : tie.Need-set-start-requires
 set-start-requires c κs = search needs
 
-reached-requires : tie.Need-reached-requires
-reached-requires c κs =
-    let s = c .before .before .before .before .before .before .before .before in
-    rw (c .before .before .before .set-start .ensures) (start-tidy _ _ _ (s .pre .0) (s .pre .1) (s .pre .2))
+sweep-if-fits-requires : tie.Need-sweep-if-fits-requires
+sweep-if-fits-requires c κs =
+    let begin = c .before .before .before .before .before .before .before .before in
+    rw (c .before .before .before .set-start .ensures) (start-tidy _ _ _ (begin .pre .0) (begin .pre .1) (begin .pre .2))
 
-room-requires : tie.Need-room-requires
-room-requires c κs = search needs
+same-length : tie.Need-same-length
+same-length c = search needs
+
+returns : tie.Need-returns
+returns c =
+    let called = c .before .before .before in
+    record {
+      says = sym (c .if1 .taken) ∙ says called;
+      table = swept-then _ (called .sweep-if-fits .ensures .table) (c .if1 .taken) (new called);
+    }
 
 set-start-requires-2 : tie.Need-set-start-requires-2
 set-start-requires-2 c κs = search needs
 
 sweep-requires : tie.Need-sweep-requires
-sweep-requires c κs = chosen-tidy (c .before)
+sweep-requires c κs = let again = c .before .before .before in rw (back again) (entry (tried again) .pre .0)
 
-same-length : tie.Need-same-length
-same-length c =
-    let join = c .before .before .before .before in
-    ap length (c .before .before .sweep .ensures) ∙ (only-length (join .if1 .t) _ ∙ chosen-long join)
+same-length-2 : tie.Need-same-length-2
+same-length-2 c = search needs
 
-returns : tie.Need-returns
-returns c =
-    let join = c .before .before .before .before in
-    record { says = fit-lists join; table = c .before .before .sweep .ensures ∙ ap swept (chosen join) }
+returns-2 : tie.Need-returns-2
+returns-2 c =
+    let swept-now = c .before .before in
+    let again = swept-now .before .before .before .before in
+    record {
+      says = sym (again .before .before .if1 .left) ∙ says (tried again);
+      table = swept-now .sweep .ensures ∙ ap swept (back again);
+    }
 
 pub settle-spec : {M : Type 1} → statement M
 settle-spec =
@@ -115,9 +94,10 @@ settle-spec =
     (tie.spec
     start-requires
     set-start-requires
-    reached-requires
-    room-requires
+    sweep-if-fits-requires
+    same-length
+    returns
     set-start-requires-2
     sweep-requires
-    same-length
-    returns)
+    same-length-2
+    returns-2)

@@ -2,7 +2,7 @@
 -- nothing.
 use mathlib.Core.Path.{_∙_}
 use borrow.Author.Needs.{needs}
-use Rattle.settling.proofs.Marking.{zeros-mark-none}
+use Rattle.reaching.proofs.Marking.{zeros-mark-none}
 use Rattle.settling.proofs.Sweeping.{marks-only}
 use Rattle.settling.proofs.sweeps.sweep.Statement.{statement}
 use Rattle.settling.proofs.sweeps.sweep.Tie as tie

@@ -1,0 +1,5 @@
+-- The laws of the index. Assumes nothing.
+pub mod Buckets
+pub mod Keeping
+pub mod Seeking
+pub mod Entering

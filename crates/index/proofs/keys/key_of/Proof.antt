@@ -1,0 +1,93 @@
+-- `key_of` meets its promise. The loop's invariant: `m` is what the mark and the targets below `x` are mixed to. The measure is the letters that are
+-- left. Assumes nothing.
+use Prim.Native.Nat.{ℕ, _+_, _-_, _≤_, _<_}
+use mathlib.Core.Path.{_≡_, _∙_}
+use native.Mathlib.Numerals.{add-one}
+use native.Mathlib.Omega.{arith}
+use borrow.Author.Needs.{needs}
+use lib.ListN.{getD}
+use Rattle.letters.specs.Letters.{letters}
+use Rattle.rows.proofs.Skipping.{past}
+use Rattle.index.specs.Buckets.{radix, mix}
+use Rattle.index.proofs.Buckets.{mix-none, mix-more, mix-zero}
+use Rattle.index.proofs.keys.key_of.Statement.{statement}
+use Rattle.index.proofs.keys.key_of.Tie as tie
+
+abbrev Inv-loop : tie.InvT-loop
+Inv-loop mark targets m₀ x₀ m x = (x ≤ letters) × (m < radix) × (m ≡ mix mark (λ y. getD targets y 0) x)
+
+abbrev μ-loop : tie.MeasureT-loop
+μ-loop mark targets m₀ x₀ m x = letters - x
+
+past-zeros-requires : tie.Need-past-zeros-requires Inv-loop μ-loop
+past-zeros-requires c κs = search needs
+
+loop-holds : tie.Need-loop-holds Inv-loop μ-loop
+loop-holds c =
+    let start = c .before .before in
+    let targets : ℕ → ℕ = λ y. getD (start .args .targets .now) y 0 in (
+      c .past-zeros .ensures .to,
+      omega arith,
+      past (start .args .targets .now) (λ x. start .args .mark ≡ mix (start .args .mark) targets x)
+          (λ x none e. e ∙ rw (mix-zero (start .args .mark) targets x none)) 0 _ (c .past-zeros .ensures .before)
+          (mix-none (start .args .mark) targets),
+    )
+
+mul-mixed : tie.Need-mul-mixed Inv-loop μ-loop
+mul-mixed c = search needs
+
+shared-slice-read-mixed : tie.Need-shared-slice-read-mixed Inv-loop μ-loop
+shared-slice-read-mixed c = search needs
+
+mixed-requires : tie.Need-mixed-requires Inv-loop μ-loop
+mixed-requires c κs = search needs
+
+add-past-zeros : tie.Need-add-past-zeros Inv-loop μ-loop
+add-past-zeros c = search needs
+
+past-zeros-requires-2 : tie.Need-past-zeros-requires-2 Inv-loop μ-loop
+past-zeros-requires-2 c κs = search needs
+
+loop-less : tie.Need-loop-less Inv-loop μ-loop
+loop-less c = search needs
+
+loop-again : tie.Need-loop-again Inv-loop μ-loop
+loop-again c =
+    let mixed = c .before in
+    let l = mixed .before .before .before .loop in
+    let start = mixed .before .before .before .before .before .before in
+    let targets : ℕ → ℕ = λ y. getD (start .args .targets .now) y 0 in
+    let (e, small) = mixed .mixed .ensures in (
+      c .past-zeros2 .ensures .to,
+      small,
+      past (start .args .targets .now) (λ x. mixed .mixed .result ≡ mix (start .args .mark) targets x)
+          (λ x none e. e ∙ rw (mix-zero (start .args .mark) targets x none)) (l .x + 1) _ (c .past-zeros2 .ensures .before)
+          (rw add-one (e ∙ rw (l .inv .2) (mix-more (start .args .mark) targets (l .x)))),
+    )
+
+key-from-requires : tie.Need-key-from-requires Inv-loop μ-loop
+key-from-requires c κs = search needs
+
+returns : tie.Need-returns Inv-loop μ-loop
+returns c =
+    let l = c .before .before .loop in
+    let all : l .x ≡ letters = omega arith in
+    c .key-from .ensures ∙ rw (rw all at (l .inv .2))
+
+pub key-of-spec : {M : Type 1} → statement M
+key-of-spec =
+    tie.close
+    (tie.spec
+    Inv-loop
+    μ-loop
+    past-zeros-requires
+    loop-holds
+    mul-mixed
+    shared-slice-read-mixed
+    mixed-requires
+    add-past-zeros
+    past-zeros-requires-2
+    loop-less
+    loop-again
+    key-from-requires
+    returns)

@@ -1,0 +1,62 @@
+// Building the index: the keys first, row by row, and then the chains.
+use super::keys::bucket_of;
+use chains::link;
+use rows::MOST_ROWS;
+use rows::mark;
+use rows::row_count;
+ghost use Prim.Native.Nat.{_≤_, _<_};
+ghost use mathlib.Core.Path.{_≡_};
+ghost use lib.ListN.{length, getD, set};
+ghost use Rattle.rows.specs.Table.{rowCount, mostRows};
+ghost use Rattle.index.specs.Buckets.{bucket};
+ghost use Rattle.index.specs.Index.{indexLength, keyPlace, Keys, Keyed, Indexed};
+
+// The buckets, and that of the free rows.
+pub const BUCKETS: usize = 1025;
+
+// Where the keys begin.
+const KEYS: usize = BUCKETS + MOST_ROWS;
+
+// The numbers of an index.
+pub const INDEX: usize = KEYS + MOST_ROWS;
+
+// The key of a row.
+pub fn key_at(index: &[u16], r: usize) -> u16
+    requires { ⌜ (r < mostRows) × (length (now index) ≡ indexLength) ⌝ }
+    ensures { λ k. ⌜ k ≡ getD (now (index .entry)) (keyPlace r) 0 ⌝ }
+{
+    index[KEYS + r]
+}
+
+// Keeps the key of a row.
+pub fn keep_key(index: &mut [u16], r: usize, key: u16)
+    requires { ⌜ (r < mostRows) × (length (now index) ≡ indexLength) ⌝ }
+    ensures { λ _. ⌜ now (index .exit) ≡ set (now (index .entry)) (keyPlace r) key ⌝ }
+{
+    index[KEYS + r] = key;
+}
+
+// The bucket of a row, by its key in the index.
+fn bucket_at(t: &[u16], index: &[u16], r: usize) -> usize
+    requires { ⌜ (0 < r) × (r < rowCount (now t)) × (rowCount (now t) ≤ mostRows) × Keys (now t) (rowCount (now t)) (now index) ⌝ }
+    ensures { λ b. ⌜ b ≡ bucket (now (t .entry)) r ⌝ }
+{
+    if mark(t, r) == 0 {
+        return 0;
+    }
+    bucket_of(key_at(index, r))
+}
+
+// Chains all rows. The keys are there.
+pub fn index_rows(t: &[u16], index: &mut [u16])
+    requires { ⌜ (0 < rowCount (now t)) × (rowCount (now t) ≤ mostRows) × Keyed (now t) (rowCount (now t)) (now index) ⌝ }
+    ensures { λ _. ⌜ Indexed (now (t .entry)) (now (index .exit)) ⌝ }
+{
+    let k = row_count(t);
+    let mut r = 1;
+    while r < k {
+        let b = bucket_at(t, index, r);
+        link(index, BUCKETS, b, r);
+        r += 1;
+    }
+}

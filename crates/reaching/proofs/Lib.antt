@@ -1,0 +1,3 @@
+-- The laws of reaching: arrays that mark rows, and how the marks spread. Assumes nothing.
+pub mod Marking
+pub mod Spreading

@@ -1,0 +1,2 @@
+-- What the functions say that mark the rows reached. Assumes nothing.
+pub mod Marks

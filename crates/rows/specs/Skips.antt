@@ -1,0 +1,31 @@
+-- Numbers that are 0, which a loop over a row may skip. Assumes nothing.
+use Prim.Native.Nat.{ℕ, _+_, _≤_, _<_}
+use mathlib.Core.Path.{_≡_}
+use mathlib.Core.Bool.{Bool}
+use mathlib.Core.List.{List}
+use lib.Dec.{eqb}
+use lib.ListN.{getD}
+use Rattle.letters.specs.Letters.{letters}
+use Rattle.sets.specs.Below.{allBelow}
+use Rattle.rows.specs.Table.{Table, target}
+
+-- the eight numbers from a on are 0
+abbrev pub eightZeros : List ℕ → ℕ → Bool
+eightZeros s a = allBelow 8 (λ i. eqb (getD s (a + i) 0) 0)
+
+-- the numbers from a on that stand before e are 0
+pub record Zeros (s : List ℕ) (a e : ℕ) : Type 0 where
+  pub from : a ≤ e
+  pub zeros : (i : ℕ) → a ≤ i → i < e → getD s i 0 ≡ 0
+
+-- e is the first place from a on whose number is not 0, or the end
+pub record Skipped (s : List ℕ) (a end e : ℕ) : Type 0 where
+  pub before : Zeros s a e
+  pub to : e ≤ end
+  pub stops : e < end → 0 < getD s e 0
+
+-- row r has no target for the letters from x on that are below e
+pub record Arcless (t : Table) (r x e : ℕ) : Type 0 where
+  pub from : x ≤ e
+  pub to : e ≤ letters
+  pub none : (y : ℕ) → x ≤ y → y < e → target t r y ≡ 0
