@@ -1,36 +1,44 @@
 -- The key goes by the mark and the targets alone, so rows that agree in them have the same key, and so the same bucket. A letter without a target
 -- adds nothing. Assumes nothing.
-use Prim.Native.Nat.{ℕ, zero, suc, _≤_, _<_}
+use Prim.Native.Nat.{ℕ, suc, _+_, _*_, _<_}
 use mathlib.Core.Path.{_≡_, refl}
 use mathlib.Core.Bool.{Bool, true, false}
 use native.Mathlib.Omega.{arith}
-use borrow.Author.Tests.{eq-eqb, ne-eqb, eqb-true, eqb-false}
-use lib.Dec.{eqb}
+use native.Mathlib.Nat.{mul-le-mul-left, le-of-lt}
+use borrow.Author.Tests.{eq-eqb, ne-eqb, eqb-true, eqb-false, ltb-true}
+use lib.Dec.{eqb, ltb}
 use Rattle.letters.specs.Letters.{letters}
 use Rattle.rows.specs.Table.{Table, rowCount, mark}
 use Rattle.rows.specs.Tidy.{Used}
-use Rattle.index.specs.Buckets.{mixed, mix, keyOf, rowKey, bucketOf, bucket, buckets}
+use Rattle.sets.specs.Below.{allBelow, total}
+use Rattle.sets.proofs.Below.{all-below, total-agree}
+use Rattle.index.specs.Buckets.{factor, mix, most, keyOf, rowKey, bucketOf, bucket, buckets}
 
-same-mix : (k : ℕ) (f g : ℕ → ℕ) → ((x : ℕ) → x < letters → f x ≡ g x) → (n : ℕ) → n ≤ letters → mix k f n ≡ mix k g n
-unfolding mix
-same-mix k f g same zero h = refl
-same-mix k f g same (suc n) h = rw (same-mix k f g same n (omega arith), same n (omega arith))
+-- every factor is below 2 to the power 32: one test over all of them
+pub factor-small : (x : ℕ) → x < letters → factor x < 4294967296
+unfolding allBelow
+factor-small x h = ltb-true (factor x) 4294967296 (all-below (λ y. ltb (factor y) 4294967296) letters refl x h)
+
+-- a number of the table times a factor
+pub product-small : (n f : ℕ) → n < 65536 → f < 4294967296 → n * f < most
+product-small n f small low = omega (arith, mul-le-mul-left n (le-of-lt low))
 
 pub same-key : (k : ℕ) (f g : ℕ → ℕ) → ((x : ℕ) → x < letters → f x ≡ g x) → keyOf k f ≡ keyOf k g
-same-key k f g same = rw (same-mix k f g same letters (omega arith))
-
-pub mix-none : (k : ℕ) (f : ℕ → ℕ) → k ≡ mix k f 0
 unfolding mix
-mix-none k f = refl
+same-key k f g same = rw (total-agree letters (λ x. f x * factor x) (λ x. g x * factor x) (λ x h. rw (same x h)))
 
-pub mix-more : (k : ℕ) (f : ℕ → ℕ) (x : ℕ) → mixed (mix k f x) x (f x) ≡ mix k f (suc x)
-unfolding mix
-mix-more k f x = refl
+pub mix-none : (k : ℕ) (f g : ℕ → ℕ) → mix k f 0 ≡ mix k g 0
+unfolding mix total
+mix-none k f g = refl
+
+pub mix-more : (k : ℕ) (f : ℕ → ℕ) (x : ℕ) → mix k f x + f x * factor x ≡ mix k f (suc x)
+unfolding mix total
+mix-more k f x = omega arith
 
 -- a letter without a target
 pub mix-zero : (k : ℕ) (f : ℕ → ℕ) (x : ℕ) → f x ≡ 0 → mix k f (suc x) ≡ mix k f x
-unfolding mix mixed
-mix-zero k f x none = rw none
+unfolding mix total
+mix-zero k f x none = rw none (omega arith)
 
 -- the bucket of a row in use, and of a free one
 pub bucket-used : {t : Table} {r : ℕ} → Used t r → bucket t r ≡ bucketOf (rowKey t r)

@@ -1,29 +1,80 @@
 // The key of a mark and 37 targets, and the bucket of a key.
 use letters::LETTERS;
 use rows::past_zeros;
-ghost use Prim.Native.Nat.{_<_};
+ghost use Prim.Native.Nat.{suc, _+_, _*_, _<_};
 ghost use mathlib.Core.Path.{_≡_};
 ghost use lib.ListN.{length, getD};
 ghost use Rattle.letters.specs.Letters.{letters};
-ghost use Rattle.index.specs.Buckets.{radix, mixed, keyFrom, keyOf, bucketOf};
+ghost use Rattle.index.specs.Buckets.{factor, mix, most, keyFrom, keyOf, bucketOf};
 
-// 2 to the power 32, and to the power 16.
-const RADIX: u64 = 4294967296;
-
+// 2 to the power 16.
 const SHARE: u64 = 65536;
 
 // How many keys have the same bucket.
 const KEYS_EACH: usize = 64;
 
-// A number from the number so far and a target.
-pub fn mixed(m: u64, x: usize, n: u16) -> u64
-    requires { ⌜ (m < radix) × (x < letters) ⌝ }
-    ensures { λ r. ⌜ (r ≡ mixed m x n) × (r < radix) ⌝ }
+const MARK_FACTOR: u64 = 2654435761;
+
+const FACTORS: [u64; LETTERS] = [
+    1372175473,
+    2158288731,
+    4085985277,
+    2198261819,
+    2779694999,
+    3693674385,
+    4092891721,
+    3797265611,
+    3843167363,
+    2581407005,
+    2669253893,
+    2390402793,
+    1806527459,
+    3364563061,
+    2459164303,
+    2352832279,
+    3618087885,
+    3137641081,
+    3335353833,
+    3299030207,
+    2108418345,
+    3225631933,
+    3320322299,
+    2519087847,
+    1894488587,
+    2637987309,
+    1233687313,
+    3507963309,
+    1931252819,
+    3499379095,
+    3826659847,
+    2942817377,
+    2105765495,
+    2917953297,
+    1349621007,
+    1706035757,
+    1080240573,
+];
+
+fn factor(x: usize) -> u64
+    requires { ⌜ x < letters ⌝ }
+    ensures { λ f. ⌜ f ≡ factor x ⌝ }
 {
-    if n == 0 {
-        return m;
-    }
-    (m + n as u64 * 64 + x as u64) * 2654435761 % RADIX
+    FACTORS[x]
+}
+
+// What a mark alone is mixed to.
+pub fn mixed_mark(mark: u16) -> u64
+    ensures { λ m. ⌜ (m ≡ mix mark (λ x. 0) 0) × (m < most) ⌝ }
+{
+    mark as u64 * MARK_FACTOR
+}
+
+// With the target for letter x, after those of lower letters.
+pub fn mixed(m: u64, x: usize, n: u16) -> u64
+    requires { ⌜ (x < letters) × (m < suc x * most) ⌝ }
+    ensures { λ r. ⌜ (r ≡ m + n * factor x) × (r < suc (suc x) * most) ⌝ }
+{
+    m + n as u64 * factor(x)
 }
 
 pub fn key_from(m: u64) -> u16
@@ -36,7 +87,7 @@ pub fn key_of(mark: u16, targets: &[u16]) -> u16
     requires { ⌜ length (now targets) ≡ letters ⌝ }
     ensures { λ k. ⌜ k ≡ keyOf mark (λ x. getD (now (targets .entry)) x 0) ⌝ }
 {
-    let mut m = mark as u64;
+    let mut m = mixed_mark(mark);
     let mut x = past_zeros(targets, 0, LETTERS);
     while x < LETTERS {
         m = mixed(m, x, targets[x]);

@@ -16,3 +16,4 @@ pub use finds::has_twin;
 pub use keys::key_from;
 pub use keys::key_of;
 pub use keys::mixed;
+pub use keys::mixed_mark;

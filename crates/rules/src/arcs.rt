@@ -4,6 +4,7 @@
 use index::keep_key;
 use index::key_from;
 use index::mixed;
+use index::mixed_mark;
 use letters::LETTERS;
 use letters::LONGEST;
 use rows::height;
@@ -55,7 +56,7 @@ fn arcs_ok(t: &[u16], r: usize, pointed: &mut [u16], index: &mut [u16]) -> bool
     ensures keyed { λ b. ⌜ KeyedIf b (now (t .entry)) (suc r) (now (index .exit)) ⌝ }
 {
     let mut top = 0;
-    let mut m = mark(t, r) as u64;
+    let mut m = mixed_mark(mark(t, r));
     let mut x = next_arc(t, r, 0);
     while x < LETTERS {
         let n = target(t, r, x);

@@ -1,6 +1,6 @@
 -- `key_of` meets its promise. The loop's invariant: `m` is what the mark and the targets below `x` are mixed to. The measure is the letters that are
 -- left. Assumes nothing.
-use Prim.Native.Nat.{ℕ, _+_, _-_, _≤_, _<_}
+use Prim.Native.Nat.{ℕ, suc, _+_, _-_, _*_, _≤_, _<_}
 use mathlib.Core.Path.{_≡_, _∙_}
 use native.Mathlib.Numerals.{add-one}
 use native.Mathlib.Omega.{arith}
@@ -8,29 +8,34 @@ use borrow.Author.Needs.{needs}
 use lib.ListN.{getD}
 use Rattle.letters.specs.Letters.{letters}
 use Rattle.rows.proofs.Skipping.{past}
-use Rattle.index.specs.Buckets.{radix, mix}
+use Rattle.index.specs.Buckets.{mix, most}
 use Rattle.index.proofs.Buckets.{mix-none, mix-more, mix-zero}
 use Rattle.index.proofs.keys.key_of.Statement.{statement}
 use Rattle.index.proofs.keys.key_of.Tie as tie
 
 abbrev Inv-loop : tie.InvT-loop
-Inv-loop mark targets m₀ x₀ m x = (x ≤ letters) × (m < radix) × (m ≡ mix mark (λ y. getD targets y 0) x)
+Inv-loop mark targets m₀ x₀ m x = (x ≤ letters) × (m < suc x * most) × (m ≡ mix mark (λ y. getD targets y 0) x)
 
 abbrev μ-loop : tie.MeasureT-loop
 μ-loop mark targets m₀ x₀ m x = letters - x
+
+mixed-mark-requires : tie.Need-mixed-mark-requires Inv-loop μ-loop
+mixed-mark-requires c κs = search needs
 
 past-zeros-requires : tie.Need-past-zeros-requires Inv-loop μ-loop
 past-zeros-requires c κs = search needs
 
 loop-holds : tie.Need-loop-holds Inv-loop μ-loop
 loop-holds c =
-    let start = c .before .before in
-    let targets : ℕ → ℕ = λ y. getD (start .args .targets .now) y 0 in (
+    let marked = c .before in
+    let start = marked .before .before in
+    let targets : ℕ → ℕ = λ y. getD (start .args .targets .now) y 0 in
+    let (e, small) = marked .mixed-mark .ensures in (
       c .past-zeros .ensures .to,
       omega arith,
-      past (start .args .targets .now) (λ x. start .args .mark ≡ mix (start .args .mark) targets x)
+      past (start .args .targets .now) (λ x. marked .mixed-mark .result ≡ mix (start .args .mark) targets x)
           (λ x none e. e ∙ rw (mix-zero (start .args .mark) targets x none)) 0 _ (c .past-zeros .ensures .before)
-          (mix-none (start .args .mark) targets),
+          (e ∙ mix-none (start .args .mark) _ targets),
     )
 
 mul-mixed : tie.Need-mul-mixed Inv-loop μ-loop
@@ -55,11 +60,11 @@ loop-again : tie.Need-loop-again Inv-loop μ-loop
 loop-again c =
     let mixed = c .before in
     let l = mixed .before .before .before .loop in
-    let start = mixed .before .before .before .before .before .before in
+    let start = mixed .before .before .before .before .before .before .before in
     let targets : ℕ → ℕ = λ y. getD (start .args .targets .now) y 0 in
     let (e, small) = mixed .mixed .ensures in (
       c .past-zeros2 .ensures .to,
-      small,
+      omega (arith, c .past-zeros2 .ensures .before .from),
       past (start .args .targets .now) (λ x. mixed .mixed .result ≡ mix (start .args .mark) targets x)
           (λ x none e. e ∙ rw (mix-zero (start .args .mark) targets x none)) (l .x + 1) _ (c .past-zeros2 .ensures .before)
           (rw add-one (e ∙ rw (l .inv .2) (mix-more (start .args .mark) targets (l .x)))),
@@ -80,6 +85,7 @@ key-of-spec =
     (tie.spec
     Inv-loop
     μ-loop
+    mixed-mark-requires
     past-zeros-requires
     loop-holds
     mul-mixed

@@ -1,30 +1,29 @@
--- `mixed` meets its promise. Assumes nothing.
+-- `mixed` meets its promise: the product of a number and a factor is small enough. Assumes nothing.
+use Prim.Native.Nat.{ℕ, _+_, _*_, _<_}
+use mathlib.Core.Path.{_≡_, ap}
 use native.Mathlib.Omega.{arith}
 use borrow.Author.Needs.{needs}
-use borrow.Author.Tests.{eq-eqb, ne-eqb}
-use Rattle.index.specs.Buckets.{mixed}
+use Rattle.index.specs.Buckets.{factor, most}
+use Rattle.index.proofs.Buckets.{factor-small, product-small}
 use Rattle.index.proofs.keys.mixed.Statement.{statement}
 use Rattle.index.proofs.keys.mixed.Tie as tie
 
-returns : tie.Need-returns
-unfolding mixed
-returns c = (rw (eq-eqb _ 0 (c .if1 .taken)), search needs)
+small : (c : tie.After-factor) → c .before .args .n * c .factor .result < most
+small c =
+    let args = c .before .args in
+    rw (c .factor .ensures) (product-small (args .n) (factor (args .x)) (search needs) (factor-small (args .x) (omega arith)))
+
+factor-requires : tie.Need-factor-requires
+factor-requires c κs = search needs
 
 mul-result : tie.Need-mul-result
-mul-result c = search needs
+mul-result c = let low = small c in search needs
 
 add-result : tie.Need-add-result
-add-result c = search needs
+add-result c = let low = small c in search needs
 
-add-result-2 : tie.Need-add-result-2
-add-result-2 c = search needs
-
-mul-result-2 : tie.Need-mul-result-2
-mul-result-2 c = search needs
-
-returns-2 : tie.Need-returns-2
-unfolding mixed
-returns-2 c = (rw (ne-eqb _ 0 (c .if1 .left)) (omega arith), omega arith)
+returns : tie.Need-returns
+returns c = let low = small c in (ap (λ (f : ℕ). c .before .args .m + c .before .args .n * f) (c .factor .ensures), omega arith)
 
 pub mixed-spec : {M : Type 1} → statement M
-mixed-spec = tie.close (tie.spec returns mul-result add-result add-result-2 mul-result-2 returns-2)
+mixed-spec = tie.close (tie.spec factor-requires mul-result add-result returns)

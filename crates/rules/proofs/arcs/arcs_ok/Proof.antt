@@ -1,7 +1,7 @@
 -- `arcs_ok` meets its promise. The loop's invariant: the targets of the letters below `x` are fine, `top` is the greatest height that they ask
 -- for, `m` is what they are mixed to for the key, and the array points at them. A target that is neither 0 nor a row in use breaks the rule; after the
 -- loop the height and number 39 decide. The measure is the letters that are left. Assumes nothing.
-use Prim.Native.Nat.{ℕ, suc, _+_, _-_, _≤_, _<_, max}
+use Prim.Native.Nat.{ℕ, suc, _+_, _-_, _*_, _≤_, _<_, max}
 use mathlib.Core.Path.{_≡_, refl, sym, ap, _∙_}
 use mathlib.Core.Bool.{Bool, true, false, _&&_, _||_, and-false}
 use mathlib.Core.List.{List}
@@ -20,7 +20,7 @@ use Rattle.rows.specs.Rules.{above, lastOk, arcsOk}
 use Rattle.rules.specs.declared.arcs.Asked.the-variants.{Height, Broken}
 use Rattle.rules.specs.Asked.{asksIf, asks}
 use Rattle.rows.specs.Skips.{Arcless}
-use Rattle.index.specs.Buckets.{radix, mixed, mix, keyFrom, rowKey}
+use Rattle.index.specs.Buckets.{factor, mix, most, keyFrom, rowKey}
 use Rattle.index.proofs.Buckets.{mix-none, mix-more, mix-zero}
 use Rattle.index.proofs.Keeping.{keyed-more}
 use Rattle.rules.specs.Pointed.{Pointed}
@@ -44,13 +44,13 @@ record Followed (t : Table) (r x top m : ℕ) (p q : List ℕ) : Type 0 where
   fine : allBelow x (λ y. eqb (target t r y) 0 || inUse t (target t r y)) ≡ true
   asked : top ≡ greatest x (λ y. above t (target t r y))
   mixes : m ≡ mix (mark t r) (λ y. target t r y) x
-  small : m < radix
+  small : m < suc x * most
   points : Pointed (λ s. someBelow x (λ y. eqb (target t r y) s)) p q
 
 module _ (t : Table) (r : ℕ) where
-  followed-none : (m : ℕ) (p : List ℕ) → m ≡ mark t r → m < radix → Followed t r 0 0 m p p
+  followed-none : (m : ℕ) (p : List ℕ) → m ≡ mix (mark t r) (λ x. 0) 0 → m < most → Followed t r 0 0 m p p
   unfolding allBelow someBelow greatest
-  followed-none m p e small = record { fine = refl; asked = refl; mixes = e ∙ mix-none _ _; small = small; points = points-nowhere (λ s. refl) }
+  followed-none m p e small = record { fine = refl; asked = refl; mixes = e ∙ mix-none _ _ _; small = omega arith; points = points-nowhere (λ s. refl) }
 
   -- a fine target above 0 is a row in use
   used-target : (n s : ℕ) → (eqb n 0 || inUse t n) ≡ true → 0 < s → (inUse t n && eqb n s) ≡ eqb n s
@@ -58,7 +58,7 @@ module _ (t : Table) (r : ℕ) where
       elim (ℕ-discrete n 0) [ yes e ↦ rw (e, ne-eqb 0 s (λ d. omega arith)) | no e ↦ rw (rw (ne-eqb n 0 e) at fine) ]
 
   followed-more : {x n top h m m′ : ℕ} {p q q′ : List ℕ} → Followed t r x top m p q → n ≡ target t r x → asks t n ≡ Height h
-      → Pointed (λ s. inUse t n && eqb n s) q q′ → m′ ≡ mixed m x n → m′ < radix → Followed t r (x + 1) (max top h) m′ p q′
+      → Pointed (λ s. inUse t n && eqb n s) q q′ → m′ ≡ m + n * factor x → m′ < suc (suc x) * most → Followed t r (x + 1) (max top h) m′ p q′
   unfolding allBelow someBelow greatest
   followed-more {x} {n} {top} {h} before at e one given small =
       let (fine, higher) = asks-height (eqb n 0 || inUse t n) (above t n) h e in
@@ -66,7 +66,7 @@ module _ (t : Table) (r : ℕ) where
         fine = all-more _ x (before .fine) (rw at at fine);
         asked = rw (add-one, before .asked, higher, at);
         mixes = rw add-one (given ∙ rw (before .mixes, at) (mix-more _ (λ y. target t r y) x));
-        small = small;
+        small = omega arith;
         points = points-at-both (before .points) one (λ s positive. rw (add-one, used-target n s fine positive, at));
       }
 
@@ -78,7 +78,7 @@ module _ (t : Table) (r : ℕ) where
         fine = rw (before .fine, none);
         asked = rw none (omega (arith, before .asked));
         mixes = before .mixes ∙ sym (mix-zero _ (λ y. target t r y) x none);
-        small = before .small;
+        small = omega (arith, before .small);
         points = points-at-both {second = λ s. false} (before .points) (points-nowhere (λ s. refl)) (λ s positive.
             rw (none, ne-eqb 0 s (λ d. omega arith)));
       }
@@ -102,19 +102,21 @@ abbrev μ-loop : tie.MeasureT-loop
 mark-requires : tie.Need-mark-requires Inv-loop μ-loop
 mark-requires c κs = search needs
 
-cast-m : tie.Need-cast-m Inv-loop μ-loop
-cast-m c = search needs
+mixed-mark-requires : tie.Need-mixed-mark-requires Inv-loop μ-loop
+mixed-mark-requires c κs = search needs
 
 next-arc-requires : tie.Need-next-arc-requires Inv-loop μ-loop
 next-arc-requires c κs = search needs
 
 abbrev start : (c : tie.At-loop Inv-loop μ-loop) → tie.Start Inv-loop μ-loop
-start c = c .before .before .before .before .before .before
+start c = c .before .before .before .before .before .before .before
 
 loop-holds : tie.Need-loop-holds Inv-loop μ-loop
 loop-holds c =
-    let marked = c .before in
-    (c .next-arc .ensures .to, followed-skip _ _ (followed-none _ _ _ _ (marked .mark .ensures) (omega arith)) (c .next-arc .ensures))
+    let mixed = c .before in
+    let (e, small) = mixed .mixed-mark .ensures in
+    let of-mark = e ∙ ap (λ (k : ℕ). mix k (λ x. 0) 0) (mixed .before .mark .ensures) in
+    (c .next-arc .ensures .to, followed-skip _ _ (followed-none _ _ _ _ of-mark small) (c .next-arc .ensures))
 
 target-requires : tie.Need-target-requires Inv-loop μ-loop
 target-requires c κs = search needs
@@ -254,7 +256,7 @@ arcs-ok-spec =
     Inv-loop
     μ-loop
     mark-requires
-    cast-m
+    mixed-mark-requires
     next-arc-requires
     loop-holds
     target-requires
