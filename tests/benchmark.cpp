@@ -1,14 +1,24 @@
-// What one call of the book costs, beside standard containers that do the same job, and how the cost grows.
+// What one call of the book costs, in CPU time: how it grows with the rows in use, how it stands beside containers that
+// do the same job, and how long it takes on books that were written to be slow.
 //
-// benchmark [--note TEXT] prints the tables of docs/BENCHMARK.md; in TEXT the calling script says whether an emulator
-// runs this. All contestants do the same jobs on the same names. Where they do not answer alike, or the book refuses,
-// the run fails.
+// benchmark [--note TEXT] [--plot FILE] [--only PARTS] [--brief]
+//
+// Prints docs/BENCHMARK.md but for its last chapter. In TEXT the calling script says whether an emulator runs this.
+// FILE gets the plot. PARTS are some of sizes,rivals,dense,worst: only these are measured. --brief prints a line for
+// each figure that a change of the library is judged by, with a tab before the figure. Built with BEFORE, and linked
+// with an earlier state of the library, it measures both in the same rounds and prints them side by side.
+//
+// All contestants do the same jobs on the same names. Where they do not answer alike, or the book refuses, the run
+// fails.
 
 #include "book.h"
+#include "slow_books.h"
 #include <algorithm>
 #include <array>
 #include <chrono>
+#include <cmath>
 #include <cstdlib>
+#include <ctime>
 #include <fstream>
 #include <functional>
 #include <iomanip>
@@ -20,7 +30,6 @@
 #include <sstream>
 #include <string>
 #include <sys/utsname.h>
-#include <type_traits>
 #include <unordered_set>
 #include <utility>
 #include <vector>
@@ -30,43 +39,81 @@
 #include <dawgdic/dictionary-builder.h>
 #endif
 
-using Clock = std::chrono::steady_clock;
 using Name = std::string;
 constexpr unsigned missions = 16, jobs_in_a_turn = 16;
 constexpr unsigned dense = 12, receiving = 14, helping = 15; // missions: two from 12 for dense lists, two without any
 constexpr unsigned both = 1, common = 2;                     // operations of combine; 3: the names of a that b has not
-constexpr std::size_t longest_list = 65535;                  // bytes that load takes
 
 [[noreturn]] void fail(const std::string &why) { std::cerr << "benchmark: " << why << '\n'; std::exit(1); }
 
+// 1,234 or 12 or 1.25
+std::string figure(double number) {
+    std::ostringstream text;
+    text << std::fixed << std::setprecision(number >= 10 || number == int(number) ? 0 : 2) << number;
+    std::string digits = text.str();
+    for (std::size_t at = digits.find('.') == Name::npos ? digits.size() : 0; at > 3;) digits.insert(at -= 3, 1, ',');
+    return digits;
+}
+
+// ---- The library --------------------------------------------------------------------------------------------------
+#define EACH_CALL(DO)                                                                                                  \
+    DO(empty) DO(check) DO(ask) DO(next) DO(add) DO(remove) DO(clear) DO(load) DO(combine) DO(count) DO(rank) DO(nth)  \
+    DO(used)
+#define POINTER(call) decltype(&book_##call) call;
+#define NOW(call) book_##call,
+struct Library { EACH_CALL(POINTER) };
+constexpr Library now = {EACH_CALL(NOW)};
+#ifdef BEFORE // an earlier state of it, whose names the script has changed
+#define DECLARED(call) extern "C" decltype(book_##call) before_book_##call;
+#define EARLIER(call) before_book_##call,
+EACH_CALL(DECLARED)
+constexpr Library before = {EACH_CALL(EARLIER)};
+#endif
+
 // ---- The contestants: sixteen lists with the book's calls, which answer the book's values -------------------------
-class Book {
+template <const Library &library> class BookBy {
   public:
-    explicit Book(unsigned room) : table(BOOK_LENGTH(room)) { value(book_empty, table); }
-    uint64_t check() const { return value(book_check, table); }
-    uint64_t used() const { return value(book_used, table); }
-    uint64_t ask(unsigned m, const Name &name) const { return value(book_ask, table, m, bytes(name), name.size()); }
+    explicit BookBy(unsigned room) : table(BOOK_LENGTH(room)) { empty(); }
+    explicit BookBy(Table table) : table(std::move(table)) { check(); }
+    uint64_t empty() { return value(library.empty, table); }
+    uint64_t check() const { return value(library.check, table); }
+    uint64_t used() const { return value(library.used, table); }
+    uint64_t ask(unsigned m, const Name &name) const { return value(library.ask, table, m, bytes(name), name.size()); }
     uint64_t next(unsigned m, const Name &prefix) const {
         uint64_t letters = 0;
-        value(book_next, table, m, bytes(prefix), prefix.size(), &letters);
+        value(library.next, table, m, bytes(prefix), prefix.size(), &letters);
         return letters;
     }
-    uint64_t add(unsigned m, const Name &name) { return value(book_add, table, m, bytes(name), name.size()); }
-    uint64_t remove(unsigned m, const Name &name) { return value(book_remove, table, m, bytes(name), name.size()); }
-    void clear(unsigned m) { value(book_clear, table, m); }
-    uint64_t load(unsigned m, const std::string &list) { return value(book_load, table, m, bytes(list), list.size()); }
-    uint64_t combine(unsigned operation, unsigned a, unsigned b, unsigned c) {
-        return value(book_combine, table, operation, a, b, c);
+    uint64_t add(unsigned m, const Name &name) { return value(library.add, table, m, bytes(name), name.size()); }
+    uint64_t remove(unsigned m, const Name &name) { return value(library.remove, table, m, bytes(name), name.size()); }
+    uint64_t clear(unsigned m) { return value(library.clear, table, m); }
+    uint64_t load(unsigned m, const std::string &list) {
+        return value(library.load, table, m, bytes(list), list.size());
     }
-    uint64_t count(unsigned m) const { return value(book_count, table, m); }
-    uint64_t rank(unsigned m, const Name &name) const { return value(book_rank, table, m, bytes(name), name.size()); }
+    uint64_t combine(unsigned operation, unsigned a, unsigned b, unsigned c) {
+        return value(library.combine, table, operation, a, b, c);
+    }
+    uint64_t count(unsigned m) const { return value(library.count, table, m); }
+    uint64_t rank(unsigned m, const Name &name) const {
+        return value(library.rank, table, m, bytes(name), name.size());
+    }
     Name nth(unsigned m, uint32_t n) const {
         uint8_t name[BOOK_LONGEST];
-        return Name(name, name + value(book_nth, table, m, n, name, sizeof name));
+        return Name(name, name + value(library.nth, table, m, n, name, sizeof name));
+    }
+    // No call: what it costs to look at each number of the table once. The empty assembly keeps the compiler from
+    // adding up several at a time.
+    uint64_t sum() const {
+        uint64_t total = 0;
+        for (const uint16_t number : table) {
+            total += number;
+            asm("" : "+r"(total));
+        }
+        return total;
     }
 
   private:
-    std::vector<uint16_t> table;
+    Table table;
     static const uint8_t *bytes(const std::string &text) { return reinterpret_cast<const uint8_t *>(text.data()); }
     template <class Call, class Table, class... More> static uint64_t value(Call call, Table &table, More... more) {
         const uint64_t answer = call(table.data(), table.size(), more...);
@@ -74,6 +121,9 @@ class Book {
         return BOOK_VALUE(answer);
     }
 };
+using Book = BookBy<now>;
+template <class Contestant> constexpr bool is_book = false;
+template <const Library &library> constexpr bool is_book<BookBy<library>> = true;
 
 // A sorted vector with binary search, in the words of std::set.
 struct SortedVector : std::vector<Name> {
@@ -106,7 +156,11 @@ template <class List> struct Containers {
     }
     uint64_t add(unsigned m, const Name &name) { return lists[m].insert(name).second; }
     uint64_t remove(unsigned m, const Name &name) { return lists[m].erase(name); }
-    void clear(unsigned m) { List().swap(lists[m]); } // its own clear() may keep memory for the next load
+    uint64_t clear(unsigned m) {
+        List old; // its own clear() may keep memory for the next load
+        old.swap(lists[m]);
+        return !old.empty();
+    }
     uint64_t load(unsigned m, const std::string &list) {
         for (std::size_t from = 0, end; (end = list.find('\n', from)) != Name::npos; from = end + 1)
             lists[m].insert(lists[m].end(), list.substr(from, end - from));
@@ -161,13 +215,13 @@ struct Dawg : Containers<SortedVector> {
         uint64_t letters = 0;
         dawgdic::BaseType row = built[m]->root(), target = row;
         if (built[m]->Follow(prefix.data(), prefix.size(), &row))
-            for (const char letter : std::string_view("0123456789ABCDEFGHIJKLMNOPQRSTUVWXYZ_"))
+            for (const char letter : alphabet)
                 letters |= built[m]->Follow(letter, &(target = row)) ? bit_of(letter) : 0;
         return letters;
     }
     uint64_t add(unsigned m, const Name &name) { return build(m, Containers::add(m, name)); }
     uint64_t remove(unsigned m, const Name &name) { return build(m, Containers::remove(m, name)); }
-    void clear(unsigned m) { Containers::clear(m), build(m, 0); }
+    uint64_t clear(unsigned m) { return build(m, Containers::clear(m)); }
     uint64_t load(unsigned m, const std::string &list) { return build(m, Containers::load(m, list)); }
     uint64_t combine(unsigned operation, unsigned a, unsigned b, unsigned c) {
         return build(c, Containers::combine(operation, a, b, c));
@@ -238,6 +292,14 @@ std::vector<std::string> pieces_of(const SortedVector &list) {
     return pieces;
 }
 
+// A list of the first hundred names of two missions that have none in common: in the largest book it needs 67 new rows.
+std::string hundred_names(const Lists &lists) {
+    SortedVector names = lists[3];
+    for (const Name &name : lists[8]) names.insert(name);
+    names.resize(100);
+    return pieces_of(names)[0];
+}
+
 struct Job {
     unsigned mission, other, operation;
     std::size_t place;               // of a name on the mission's list
@@ -275,141 +337,338 @@ template <class Contestant> Contestant filled(Contestant book, const Lists &list
 }
 
 // ---- Measuring ----------------------------------------------------------------------------------------------------
-// A turn does each job of one call once. What it needs is prepared outside its time.
+using Wall = std::chrono::steady_clock; // says only when to stop
+
+// What this thread has had of the processor, in nanoseconds.
+double cpu_time() {
+    timespec time;
+    clock_gettime(CLOCK_THREAD_CPUTIME_ID, &time);
+    return time.tv_sec * 1e9 + time.tv_nsec;
+}
+
+double median(std::vector<double> times) {
+    std::nth_element(times.begin(), times.begin() + times.size() / 2, times.end());
+    return times[times.size() / 2];
+}
+
+// What the clock itself costs, which is no part of a turn's time.
+double clock_cost() {
+    static const double cost = [] {
+        std::vector<double> times(1001);
+        for (double &time : times) time = cpu_time(), time = cpu_time() - time;
+        return median(times);
+    }();
+    return cost;
+}
+
+// A turn does some jobs of one call, each once. What they need is prepared outside its time.
 struct Measurement {
     std::function<void()> prepare;
     std::function<uint64_t()> work;
-    std::vector<double> times = {}; // nanoseconds of the turns
-    uint64_t answers = 0;           // their sum
-    void turns() {
-        const auto end = Clock::now() + std::chrono::microseconds(500);
-        for (unsigned turn = 0; turn < 1 || (turn < 40 && Clock::now() < end); ++turn) {
-            prepare();
-            const auto start = Clock::now();
-            answers = work();
-            times.push_back(std::chrono::duration<double, std::nano>(Clock::now() - start).count());
-        }
+    bool repeats; // may the jobs be done again at once? Then a turn does so until it is long beside the clock
+    unsigned jobs, laps = 1;
+    std::vector<double> times = {}; // nanoseconds of one job, by round; at least 1: under it the clock tells nothing
+    uint64_t answers = 0;           // the sum of all jobs'
+    double turn() {
+        prepare();
+        const double start = cpu_time();
+        for (unsigned lap = 0; lap < laps; ++lap) answers = work();
+        const double time = cpu_time() - start - clock_cost(), of_one = time / laps / jobs;
+        if (repeats && time < 20000) laps *= 2;
+        return std::max(1.0, of_one);
+    }
+    void round(Wall::duration enough, unsigned most) {
+        const auto end = Wall::now() + enough;
+        std::vector<double> turns;
+        do turns.push_back(turn());
+        while (turns.size() < most && Wall::now() < end);
+        times.push_back(median(turns));
     }
 };
+
+// How many times as long the first takes: the median of the rounds' ratios, as a busy machine slows both in a round.
+double ratio(const Measurement &first, const Measurement &second) {
+    std::vector<double> ratios = first.times;
+    for (std::size_t i = 0; i < ratios.size(); ++i) ratios[i] /= second.times[i];
+    return median(ratios);
+}
 using Column = std::map<std::string, Measurement>; // by call
 
 // All jobs are done on one book, or where they change it each on its own copy, so that all find the same.
-template <class Contestant> Column column_of(const Contestant &full, const Jobs &jobs) {
-    Column column = {{"clock", {[] {}, [] { return 0; }}}};
-    const auto plan = [&](const char *call, std::size_t copies, auto before, auto answer) {
+template <class Contestant> Column column_of(const Contestant &full, const Jobs &jobs, const std::string &hundred) {
+    Column column;
+    const auto plan = [&](const char *call, bool changes, auto before, auto answer) {
         const auto books = std::make_shared<std::vector<Contestant>>();
         const auto each = [=](auto step) {
             uint64_t answers = 0;
-            for (std::size_t i = 0; i < jobs->size(); ++i) answers += step((*books)[copies > 1 ? i : 0], (*jobs)[i]);
+            for (std::size_t i = 0; i < jobs->size(); ++i) answers += step((*books)[changes ? i : 0], (*jobs)[i]);
             return answers;
         };
-        column[call] = {[=] { books->assign(copies, full); each(before); }, [=] { return each(answer); }};
+        const auto prepare = [=] { books->assign(changes ? jobs->size() : 1, full); each(before); };
+        column[call] = {prepare, [=] { return each(answer); }, !changes, jobs_in_a_turn};
     };
-    const auto read = [&](const char *call, auto answer) { plan(call, 1, [](auto &, auto &) { return 0; }, answer); };
-    const auto change = [&](const char *call, auto before, auto answer) { plan(call, jobs->size(), before, answer); };
+    const auto nothing = [](auto &, auto &) { return 0; };
+    const auto read = [&](const char *call, auto answer) { plan(call, false, nothing, answer); };
+    const auto change = [&](const char *call, auto before, auto answer) { plan(call, true, before, answer); };
     const auto remove = [](auto &book, auto &job) { return book.remove(job.mission, job.name); };
+    const auto clear = [](auto &book, auto &job) { return book.clear(job.mission); };
 
     read("ask", [](auto &book, auto &job) { return book.ask(job.mission, job.asked); });
     read("next", [](auto &book, auto &job) { return book.next(job.mission, job.prefix); });
-    if constexpr (std::is_same_v<Contestant, Book>) read("check", [](auto &book, auto &) { return book.check(); });
     change("add", remove, [](auto &book, auto &job) { return book.add(job.mission, job.name); });
-    change("remove", [](auto &, auto &) { return 0; }, remove);
+    change("remove", nothing, remove);
+    change("clear", nothing, clear);
     if (jobs->front().pieces.size() == 1)
-        change("load", [](auto &book, auto &job) { return book.clear(job.mission), 0; },
-               [](auto &book, auto &job) { return book.load(job.mission, job.pieces[0]); });
-    change("combine", [](auto &, auto &) { return 0; },
+        change("load", clear, [](auto &book, auto &job) { return book.load(job.mission, job.pieces[0]); });
+    if (!hundred.empty())
+        change("load of 100 names", nothing, [=](auto &book, auto &) { return book.load(receiving, hundred); });
+    change("combine", nothing,
            [](auto &book, auto &job) { return book.combine(job.operation, job.mission, job.other, receiving); });
     read("count", [](auto &book, auto &job) { return book.count(job.mission); });
     read("rank", [](auto &book, auto &job) { return book.rank(job.mission, job.asked); });
     read("nth", [](auto &book, auto &job) { return book.nth(job.mission, job.place) == job.name; });
+    if constexpr (is_book<Contestant>) {
+        change("empty", nothing, [](auto &book, auto &) { return book.empty(); });
+        read("check", [](auto &book, auto &) { return book.check(); });
+        read("used", [](auto &book, auto &) { return book.used(); });
+        read("sum", [](auto &book, auto &) { return book.sum(); });
+    }
     return column;
 }
 
 struct Contest {
-    std::vector<double> about;   // rows in use, room, names, names on the longest list
-    std::vector<Column> columns; // the book's is the first
-};
+    std::vector<double> about; // the numbers that `facts` names
+    std::vector<std::pair<std::string, Column>> columns;
+    bool has(const std::string &call, const std::string &contestant = "book") const {
+        return column(contestant).count(call) == 1;
+    }
+    const Measurement &of(const std::string &call, const std::string &contestant = "book") const {
+        return column(contestant).at(call);
+    }
 
-Contest contest_on(unsigned rows, const Lists &lists, const Jobs &jobs, bool with_rivals) {
-    const unsigned room = std::min(rows + 60, 1000u); // combine needs rows for what it makes
-    const Book book = filled(Book(room), lists);
+  private:
+    const Column &column(const std::string &contestant) const {
+        return std::find_if(columns.begin(), columns.end(), [&](auto &one) { return one.first == contestant; })->second;
+    }
+};
+constexpr std::array facts = {"rows in use", "room", "names on all lists", "names on the longest list"};
+
+std::vector<double> about(const Book &book, unsigned room, const Lists &lists) {
     double names = 0, longest = 0;
     for (const SortedVector &list : lists) {
         names += list.size();
         longest = std::max<double>(longest, list.size());
     }
-    Contest made = {{1.0 * book.used(), 1.0 * room, names, longest}, {column_of(book, jobs)}};
-    const auto join = [&](auto... empty) { (made.columns.push_back(column_of(filled(empty, lists), jobs)), ...); };
-    if (with_rivals) {
-        join(Containers<std::set<Name>>(), Hashed(), Containers<SortedVector>());
-#ifdef DAWG_INSTALLED
-        join(Dawg());
-        for (const char *call : {"count", "rank", "nth"}) made.columns.back().erase(call); // of the vector beside it
+    return {1.0 * book.used(), 1.0 * room, names, longest};
+}
+
+Contest contest_on(unsigned rows, const Lists &lists, const Jobs &jobs, const std::string &hundred, bool with_rivals) {
+    const unsigned room = std::min(rows + 60, most_room); // combine needs rows for what it makes
+    const Book book = filled(Book(room), lists);
+    Contest made = {about(book, room, lists), {{"book", column_of(book, jobs, hundred)}}};
+    const auto join = [&](const char *name, auto empty) {
+        made.columns.emplace_back(name, column_of(filled(empty, lists), jobs, hundred));
+    };
+#ifdef BEFORE
+    join("before", BookBy<before>(room));
 #endif
-    }
+    if (!with_rivals) return made;
+    join("set", Containers<std::set<Name>>());
+    join("unordered_set", Hashed());
+    join("sorted vector", Containers<SortedVector>());
+#ifdef DAWG_INSTALLED
+    join("libdawgdic", Dawg());
+    for (const char *call : {"count", "rank", "nth"}) made.columns.back().second.erase(call); // of the vector beside it
+#endif
     return made;
 }
 
-// The one way to measure: in rounds, so that whatever else the machine does meets all alike. Each has several turns in
-// a round, of which the first warm up; the median leaves them out.
-void measure(std::vector<Contest> &contests) {
-    const auto enough = Clock::now() + std::chrono::seconds(20);
-    for (unsigned round = 0; round < 5 || Clock::now() < enough; ++round)
-        for (Contest &contest : contests)
-            for (Column &column : contest.columns)
-                for (auto &[call, measurement] : column) measurement.turns();
+std::vector<Contest> by_size(bool with_rivals) {
+    constexpr unsigned rows_and_groups[][2] = {{10, 2}, {30, 3}, {100, 11}, {300, 46}, {1000, 175}};
+    std::vector<Contest> contests;
+    for (const auto &[rows, groups] : rows_and_groups) {
+        const Lists lists = script_names(groups);
+        const Jobs jobs = jobs_on(lists, 0, std::min(groups + 1, receiving));
+        const std::string hundred = rows == 1000 ? hundred_names(lists) : ""; // only there are so many names
+        contests.push_back(contest_on(rows, lists, jobs, hundred, with_rivals && rows != 30 && rows != 300));
+    }
+    return contests;
 }
 
-double time_of(const std::string &call, const Column &column) {
-    const auto median = [&](const std::string &of) {
-        std::vector<double> times = column.at(of).times;
-        std::nth_element(times.begin(), times.begin() + times.size() / 2, times.end());
-        return times[times.size() / 2];
-    };
-    return std::max(1.0, (median(call) - median("clock")) / jobs_in_a_turn); // under 1 the clock tells nothing
+std::vector<Contest> by_names() {
+    std::vector<Contest> contests;
+    for (const unsigned names : {100, 1000, 10000, 60000}) {
+        const Lists lists = with_dense_names(script_names(11), names);
+        contests.push_back(contest_on(100, lists, jobs_on(lists, dense, 2), "", false));
+    }
+    return contests;
+}
+
+// Each call in turn, of all contestants: the book has every call that another has. In every second round they come in
+// the other order, since who comes first finds the caches as the call before left them.
+void measure_round(Contest &contest, bool backwards) {
+    for (const auto &[call, of_book] : contest.columns[0].second)
+        for (std::size_t i = 0, last = contest.columns.size() - 1; i <= last; ++i) {
+            Column &column = contest.columns[backwards ? last - i : i].second;
+            if (column.count(call) == 1) column[call].round(std::chrono::microseconds(500), 40);
+        }
+}
+
+// In rounds, so that whatever else the machine does meets all alike. The first ones warm up; the median leaves them
+// out.
+void measure(std::vector<Contest> &contests, std::chrono::seconds enough) {
+    const auto end = Wall::now() + enough;
+    for (unsigned round = 0; !contests.empty() && (round < 5 || Wall::now() < end); ++round)
+        for (Contest &contest : contests) measure_round(contest, round % 2 == 1);
+}
+
+// A call that takes long on one book: for pairs of rows that it settles, or rows that it asks for.
+struct Slow {
+    std::string call, unit;
+    double rows, units, time; // rows in use, units of work, nanoseconds
+};
+
+// Any call on any table that is a sound book. Few turns, since one may take seconds.
+template <class Book>
+Slow slow_call(const std::string &call, std::size_t units, const std::string &unit, const Table &table,
+               const std::function<uint64_t(Book &)> &answer) {
+    const Book full(table);
+    Book book = full;
+    Measurement slow = {[&] { book = full; }, [&] { return answer(book); }, false, 1};
+    slow.round(std::chrono::seconds(1), 15);
+    return {call, unit, 1.0 * full.used(), 1.0 * units, median(slow.times)};
+}
+
+template <class Book> Slow slow_combine(const std::string &call, const Table &table, unsigned operation) {
+    return slow_call<Book>(call, pairs_met(table, 0, 1), "pairs of rows", table,
+                           [=](Book &book) { return book.combine(operation, 0, 1, receiving); });
+}
+
+// The worst that were found. Another is one more line here, and one in print_slow.
+template <class Book> std::vector<Slow> slow_calls() {
+    const std::string list = list_that_ends_alike();
+    const auto load = [&](Book &book) { return book.load(receiving, list); };
+    return {slow_combine<Book>("combine", book_of_few_arcs(), common),
+            slow_call<Book>("load", rows_asked(list), "rows asked for", book_of_like_beginnings(), load),
+            slow_combine<Book>("combine, all arcs", book_of_all_arcs(), both),
+            slow_combine<Book>("combine, one key", book_of_one_key(), both)};
 }
 
 // ---- Printing -----------------------------------------------------------------------------------------------------
-constexpr std::array calls = {"ask", "next", "check", "add", "remove", "load", "combine", "count", "rank", "nth"};
+constexpr std::array calls = {"empty", "check", "ask", "next", "add", "remove", "clear", "load", "load of 100 names",
+                              "combine", "count", "rank", "nth", "used"};
+using Cells = std::vector<std::string>;
 
-std::string figure(double number) {
-    std::ostringstream text;
-    text << std::fixed << std::setprecision(number >= 10 || number == int(number) ? 0 : number < 1 ? 2 : 1) << number;
-    std::string digits = text.str();
-    for (std::size_t at = digits.find('.') == Name::npos ? digits.size() : 0; at > 3;) digits.insert(at -= 3, 1, ',');
-    return digits;
+// The book's time for a call, or that over its time for another; "-" where the call was not measured.
+std::string cell(const Contest &contest, const std::string &call, const std::string &over = "") {
+    if (!contest.has(call)) return "-";
+    return figure(over.empty() ? median(contest.of(call).times) : ratio(contest.of(call), contest.of(over)));
 }
 
-std::string ratio(const std::string &call, const Column &book, const Column &rival) {
-    if (rival.count(call) == 0) return "-";
-    if (rival.at(call).answers != book.at(call).answers) fail(call + ": not all answer alike");
-    return figure(time_of(call, book) / time_of(call, rival));
+void print_line(const Cells &cells) {
+    for (const std::string &cell : cells) std::cout << "| " << cell << ' ';
+    std::cout << "|\n";
 }
 
-void print_comparison(const Contest &contest) {
-    std::cout << "\n## " << figure(contest.about[0]) << " rows in use\n\n"
-              << "| call | book, ns | check's share | set | unordered_set | sorted vector | libdawgdic |\n"
-              << "|---|--:|--:|--:|--:|--:|--:|\n";
-    const auto &columns = contest.columns;
+void print_head(const Cells &cells) {
+    std::cout << '\n';
+    print_line(cells);
+    std::cout << "|---";
+    for (std::size_t i = 1; i < cells.size(); ++i) std::cout << "|--:";
+    std::cout << "|\n";
+}
+
+using Say = std::function<std::string(const Contest &)>;
+
+Cells cells_of(const std::string &first, const std::vector<Contest> &contests, const Say &say) {
+    Cells cells = {first};
+    for (const Contest &contest : contests) cells.push_back(say(contest));
+    return cells;
+}
+
+// A line with a cell for each book, if there is anything to say.
+void print_books(const std::string &first, const std::vector<Contest> &contests, const Say &say) {
+    const Cells cells = cells_of(first, contests, say);
+    const auto said = [](const std::string &cell) { return cell != "-"; };
+    if (std::any_of(cells.begin() + 1, cells.end(), said)) print_line(cells);
+}
+
+Say fact(std::size_t i) {
+    return [=](const Contest &contest) { return figure(contest.about[i]); };
+}
+
+// A column for each book, headed by one of the facts.
+void print_times(const std::string &heading, std::size_t headed_by, const std::vector<Contest> &contests) {
+    std::cout << "\n## " << heading << '\n';
+    print_head(cells_of(facts[headed_by], contests, fact(headed_by)));
+    for (std::size_t i = 0; i < facts.size(); ++i)
+        if (i != headed_by) print_books(facts[i], contests, fact(i));
+    for (const std::string call : calls)
+        print_books("**" + call + "**", contests, [&](const Contest &contest) { return cell(contest, call); });
+    print_books("sum of the table", contests, [](const Contest &contest) { return cell(contest, "sum"); });
+}
+
+void print_checks(const std::vector<Contest> &contests) {
+    std::cout << R"(
+## One call, in checks of the same book
+
+Every call but empty, ask and next first checks the whole book, since it must refuse a table that is not
+sound: so none of them can take much less than 1 here. The last line is check itself, in sums of the table.
+)";
+    static const std::set<std::string> others = {"empty", "check", "ask", "next"};
+    print_head(cells_of(facts[0], contests, fact(0)));
+    for (const std::string call : calls)
+        if (others.count(call) == 0)
+            print_books(call + " / check", contests, [&](const Contest &book) { return cell(book, call, "check"); });
+    print_books("**check / sum**", contests, [](const Contest &book) { return cell(book, "check", "sum"); });
+}
+
+void print_slow(const std::vector<Slow> &slow) {
+    std::cout << R"(
+## The worst books that were found
+
+Sound books, written by hand, on which a call takes as long as we could make it take (`tests/slow_books.h`):
+
+- **combine**: any two rows of two lists meet, and each pair makes one and the same row, behind all others.
+- **load**: names of 24 letters ask for the same rows again and again, in a book whose rows begin like these.
+- **combine, all arcs**: as the first, but each row has an arc for every letter.
+- **combine, one key**: as the third, but all those rows have one key in the library's index of rows, so that
+  each of them is looked at for each pair.
+)";
+    print_head({"call", "rows in use", "work", "microseconds", "nanoseconds for each"});
+    for (const Slow &one : slow)
+        print_line({"**" + one.call + "**", figure(one.rows), figure(one.units) + ' ' + one.unit,
+                    figure(one.time / 1000), figure(one.time / one.units)});
+}
+
+std::string beside(const Contest &contest, const std::string &call, const std::string &rival) {
+    if (!contest.has(call) || !contest.has(call, rival)) return "-";
+    if (contest.of(call).answers != contest.of(call, rival).answers) fail(call + ": not all answer alike");
+    return figure(ratio(contest.of(call), contest.of(call, rival)));
+}
+
+void print_beside(const Contest &contest) {
+    std::cout << "\n### " << figure(contest.about[0]) << " rows in use\n";
+    Cells head = {"call", "book, ns"};
+    for (std::size_t i = 1; i < contest.columns.size(); ++i) head.push_back(contest.columns[i].first);
+    print_head(head);
     for (const std::string call : calls) {
-        const double time = time_of(call, columns[0]), share = 100 * time_of("check", columns[0]) / time;
-        std::cout << "| " << call << " | " << figure(time) << " | "
-                  << (call == "ask" || call == "next" ? "-" : figure(share) + " %");
-        for (std::size_t i = 1; i < columns.size(); ++i) std::cout << " | " << ratio(call, columns[0], columns[i]);
-        std::cout << (columns.size() < 5 ? " | not installed |\n" : " |\n");
+        Cells cells = {call, cell(contest, call)};
+        for (std::size_t i = 2; i < head.size(); ++i) cells.push_back(beside(contest, call, head[i]));
+        if (cells[2] != "-") print_line(cells);
     }
 }
 
-void print_growth(const char *heading, const Contest *first, const Contest *last) {
-    std::cout << "\n## " << heading << "\n\n| rows in use | room | names | longest list |";
-    for (const char *call : calls) std::cout << ' ' << call << " |";
-    std::cout << "\n|--:|--:|--:|--:|--:|--:|--:|--:|--:|--:|--:|--:|--:|--:|\n";
-    for (; first != last; ++first) {
-        for (const double number : first->about) std::cout << "| " << figure(number) << ' ';
-        const Column &own = first->columns[0];
-        for (const char *call : calls) std::cout << "| " << (own.count(call) ? figure(time_of(call, own)) : "-") << ' ';
-        std::cout << "|\n";
-    }
+void print_rivals(const std::vector<Contest> &contests) {
+    std::cout << R"(
+## Beside containers of the C++ library
+
+How many times as long as a container the book takes for the same jobs: 2 is twice as long, and under 1 the
+book is faster. The containers check nothing. libdawgdic, where it is installed, can neither change nor count:
+its names stand in a sorted vector beside it, and a change builds it anew.
+)";
+    for (const Contest &contest : contests)
+        if (contest.columns.size() > 1) print_beside(contest);
 }
 
 std::string machine() {
@@ -422,30 +681,195 @@ std::string machine() {
     return processor + ", " + system.sysname + ' ' + system.release + ' ' + system.machine + ", g++ " + __VERSION__;
 }
 
-int main(int count, char **arguments) {
-    if (count != 1 && (count != 3 || std::string(arguments[1]) != "--note")) fail("usage: benchmark [--note TEXT]");
-    constexpr unsigned rows_and_groups[][2] = {{10, 2}, {30, 3}, {100, 11}, {300, 46}, {1000, 175}};
-    std::vector<Contest> contests;
-    for (const auto &[rows, groups] : rows_and_groups) {
-        const Lists lists = script_names(groups);
-        const Jobs jobs = jobs_on(lists, 0, std::min(groups + 1, receiving));
-        contests.push_back(contest_on(rows, lists, jobs, rows != 30 && rows != 300));
-    }
-    for (const unsigned names : {100, 1000, 10000, 60000}) {
-        const Lists lists = with_dense_names(script_names(11), names);
-        contests.push_back(contest_on(100, lists, jobs_on(lists, dense, 2), false));
-    }
-    measure(contests);
-    std::cout << "# What a call costs\n\nMeasured on " << machine() << ". " << (count == 3 ? arguments[2] : "") << R"(
+void print_introduction(const std::string &note) {
+    std::cout << "# What a call costs\n\nMeasured on " << machine() << ".\n" << note << R"(
+`tests/bench` writes this page, but for its last chapter.
 
-Times are nanoseconds of one call, at least 1: the median of many turns. A ratio is the book's time over the other's for
-the same jobs: over 1 the book is slower. Half of the names asked for are on the list; add puts a name back, load a
-list; combine does its three operations in turn. Each call of the book but ask and next also checks that the whole table
-is sound (01's refusal 7), and nothing else here checks: "check's share" is a check's time over the call's. libdawgdic
-can neither change nor count: its names stand in a sorted vector beside it, and a change builds it anew.
+![CPU time of check, add, load and combine against rows in use](benchmark.svg)
+
+## What is measured, and against what
+
+- **Time** is CPU time of one call, at least 1 nanosecond, without what the clock itself costs. Calls are
+  timed by sixteen. All have their turns in many rounds, so that whatever else the machine does meets all of
+  them. A time is the median of the rounds, and a ratio the median of the rounds' ratios.
+- **The books** hold names such as SLEW_A3 and WHEEL_B_ON. Each name is on the lists of two missions.
+- **The jobs**: every second name that ask, next and rank are given is on no list. add puts a name back that
+  was taken off, and load a list that was cleared; "load of 100 names" fills one that was empty. combine does
+  its three operations in turn. A call that changes the book works on a copy of its own; the others are
+  repeated on one book, so that ask and next find what they read in the nearest cache.
+- **The sum** is no call, but a plain loop that adds up all numbers of the table, one after another, those of
+  free rows too. check has to look at each of them as well.
 )";
-    for (const Contest &contest : contests)
-        if (contest.columns.size() > 1) print_comparison(contest);
-    print_growth("More rows, with about as many names for each (ns)", contests.data(), contests.data() + 5);
-    print_growth("More names on the same rows (ns; load takes 65,535 bytes)", contests.data() + 5, contests.data() + 9);
+}
+
+// ---- The plot: time against rows in use, both logarithmic ---------------------------------------------------------
+struct Line {
+    std::string name, colour;
+    std::vector<std::pair<double, double>> points; // rows in use and nanoseconds
+};
+
+class Picture {
+  public:
+    Picture(const std::string &path, const std::vector<Line> &lines) : file(path) {
+        for (const Line &line : lines)
+            for (const auto &[rows, time] : line.points) {
+                lowest = std::min(lowest, std::floor(std::log10(time)));
+                highest = std::max(highest, std::ceil(std::log10(time)));
+            }
+        file << std::fixed << std::setprecision(1)
+             << "<svg xmlns='http://www.w3.org/2000/svg' viewBox='0 0 900 520' width='900' height='520' "
+             << "font-family='sans-serif' font-size='14' fill='#333'>\n<rect width='900' height='520' fill='white'/>\n";
+        text(left, 32, "font-size='17'", "CPU time of one call against rows in use; both axes are logarithmic");
+        for (const int rows : {10, 20, 50, 100, 200, 500, 1000}) mark_rows(rows);
+        for (double power = lowest; power <= highest; ++power) mark_time(power);
+        text((left + right) / 2, bottom + 48, "text-anchor='middle'", "rows in use");
+        for (const Line &line : lines) draw(line);
+        file << "</svg>\n";
+    }
+
+  private:
+    static constexpr double left = 90, right = 690, top = 60, bottom = 450;
+    std::ofstream file;
+    double lowest = 9, highest = 0; // powers of ten
+    double legend = top + 20;
+    double x(double rows) const { return left + (right - left) * std::log10(rows / 10) / 2; } // from 10 rows to 1,000
+    double y(double time) const { return bottom - (bottom - top) * (std::log10(time) - lowest) / (highest - lowest); }
+    void text(double at_x, double at_y, const std::string &style, const std::string &said) {
+        file << "<text x='" << at_x << "' y='" << at_y << "' " << style << '>' << said << "</text>\n";
+    }
+    void dot(double at_x, double at_y, const std::string &colour) {
+        file << "<circle cx='" << at_x << "' cy='" << at_y << "' r='4.5' fill='" << colour << "'/>\n";
+    }
+    void mark_rows(int rows) {
+        file << "<path stroke='#ddd' d='M" << x(rows) << ' ' << top << 'V' << bottom << "'/>\n";
+        text(x(rows), bottom + 22, "text-anchor='middle'", figure(rows));
+    }
+    void mark_time(double power) {
+        static const std::array units = {" ns", " µs", " ms", " s"};
+        const double at = y(std::pow(10, power));
+        file << "<path stroke='#ddd' d='M" << left << ' ' << at << 'H' << right << "'/>\n";
+        text(left - 10, at + 5, "text-anchor='end'", figure(std::pow(10, std::fmod(power, 3))) + units[int(power) / 3]);
+    }
+    void draw(const Line &line) {
+        file << "<polyline fill='none' stroke='" << line.colour << "' stroke-width='2.5' points='";
+        for (const auto &[rows, time] : line.points) file << x(rows) << ',' << y(time) << ' ';
+        file << "'/>\n";
+        for (const auto &[rows, time] : line.points) dot(x(rows), y(time), line.colour);
+        dot(right + 30, legend - 5, line.colour);
+        text(right + 44, legend, "", line.name);
+        legend += 28;
+    }
+};
+
+void plot(const std::string &path, const std::vector<Contest> &contests) {
+    std::vector<Line> lines = {{"combine", "#7b3294", {}}, {"load", "#d95f02", {}}, {"add", "#1b9e77", {}},
+                               {"check", "#2166ac", {}},   {"sum", "#999999", {}}};
+    for (Line &line : lines)
+        for (const Contest &contest : contests)
+            line.points.emplace_back(contest.about[0], median(contest.of(line.name).times));
+    lines.back().name = "sum of the table";
+    Picture(path, lines);
+}
+
+// ---- What a change of the library is judged by --------------------------------------------------------------------
+// The states of the library that are measured, the earlier first.
+#ifdef BEFORE
+const std::vector<std::string> states = {"before", "book"};
+#else
+const std::vector<std::string> states = {"book"};
+#endif
+
+void print_figures(const std::string &what, const std::vector<double> &figures) {
+    std::cout << what;
+    for (const double number : figures) std::cout << '\t' << figure(number);
+    std::cout << '\n';
+}
+
+// A ratio of two times, for each state.
+void print_ratio(const std::string &call, const Contest &contest, const std::string &over, const Contest &other) {
+    std::vector<double> figures;
+    for (const std::string &state : states) figures.push_back(ratio(contest.of(call, state), other.of(over, state)));
+    const auto at = [](const Contest &one) { return " at " + figure(one.about[0]) + " rows"; };
+    print_figures(call + (&contest == &other ? "" : at(contest)) + " / " + over + at(other), figures);
+}
+
+// A time for each state, and then how many times as fast as before it is now.
+void print_time(const std::string &call, const Contest &contest) {
+    std::vector<double> figures;
+    for (const std::string &state : states) figures.push_back(median(contest.of(call, state).times));
+    if (states.size() == 2) figures.push_back(ratio(contest.of(call, "before"), contest.of(call)));
+    print_figures(call + " at " + figure(contest.about[0]) + " rows, ns", figures);
+}
+
+void print_slow_times(const std::vector<std::vector<Slow>> &by_state) {
+    for (std::size_t i = 0; i < by_state[0].size(); ++i) {
+        std::vector<double> figures;
+        for (const std::vector<Slow> &slow : by_state) figures.push_back(slow[i].time / 1000);
+        if (states.size() == 2) figures.push_back(figures[0] / figures[1]);
+        print_figures("worst " + by_state[0][i].call + ", microseconds", figures);
+    }
+}
+
+void print_brief(const std::vector<Contest> &contests, const std::vector<std::vector<Slow>> &slow) {
+    const Contest &small = contests[0], &middle = contests[2], &large = contests[4];
+    if (states.size() == 2) std::cout << "figure\tbefore\tnow\tbefore / now\n";
+    print_ratio("check", large, "sum", large);
+    print_ratio("check", large, "check", middle);
+    for (const char *call : {"add", "remove", "count", "load of 100 names"}) print_ratio(call, large, "check", large);
+    print_slow_times(slow);
+    for (const std::string call : calls)
+        if (small.has(call)) print_time(call, small);
+}
+
+// ---- What is asked for --------------------------------------------------------------------------------------------
+struct Options {
+    std::string note, plot, only = "sizes,rivals,dense,worst";
+    bool brief = false;
+    bool wants(const std::string &part) const { return (',' + only + ',').find(',' + part + ',') != Name::npos; }
+};
+
+[[noreturn]] void explain() {
+    fail("usage: benchmark [--note TEXT] [--plot FILE] [--only PARTS] [--brief]; PARTS of sizes,rivals,dense,worst");
+}
+
+void expect_parts(const std::string &only) {
+    std::istringstream parts(only);
+    for (std::string part; std::getline(parts, part, ',');)
+        if (!Options().wants(part)) explain();
+}
+
+Options options_of(const std::vector<std::string> &words) {
+    Options options;
+    const std::map<std::string, std::string *> with_text = {
+        {"--note", &options.note}, {"--plot", &options.plot}, {"--only", &options.only}};
+    for (std::size_t i = 0; i < words.size(); ++i) {
+        if (words[i] == "--brief") options.brief = true;
+        else if (with_text.count(words[i]) == 1 && i + 1 < words.size()) *with_text.at(words[i]) = words[i + 1], ++i;
+        else explain();
+    }
+    expect_parts(options.only);
+    if (options.brief) options.only = "sizes,worst";
+    return options;
+}
+
+int main(int count, char **arguments) {
+    const Options options = options_of({arguments + 1, arguments + count});
+    const bool sizes_wanted = options.wants("sizes") || options.wants("rivals") || !options.plot.empty();
+    std::vector<Contest> sizes = sizes_wanted ? by_size(options.wants("rivals")) : std::vector<Contest>();
+    std::vector<Contest> names = options.wants("dense") ? by_names() : std::vector<Contest>();
+    measure(sizes, std::chrono::seconds(options.brief ? 15 : 25));
+    measure(names, std::chrono::seconds(5));
+    std::vector<std::vector<Slow>> slow; // by state
+#ifdef BEFORE
+    slow.push_back(slow_calls<BookBy<before>>());
+#endif
+    if (options.wants("worst")) slow.push_back(slow_calls<Book>());
+    if (!options.plot.empty()) plot(options.plot, sizes);
+    if (options.brief) return print_brief(sizes, slow), 0;
+
+    print_introduction(options.note);
+    if (options.wants("sizes")) print_times("One call, in nanoseconds", 0, sizes), print_checks(sizes);
+    if (options.wants("worst")) print_slow(slow.back());
+    if (options.wants("rivals")) print_rivals(sizes);
+    if (options.wants("dense")) print_times("More names on as many rows, in nanoseconds", 2, names);
 }

@@ -6,11 +6,10 @@ use native.Mathlib.Decide.{ℕ-discrete}
 use mathlib.Core.Path.{_≡_, refl, sym, _∙_}
 use mathlib.Core.Bool.{Bool, true, false, cond}
 use mathlib.Core.List.{List}
-use borrow.Author.Tests.{eqb-true, eqb-false, eq-eqb, ne-eqb}
+use borrow.Author.Tests.{eqb-true, eq-eqb, ne-eqb}
 use lib.Dec.{eqb}
-use lib.ListN.{length, getD}
-use Rattle.letters.specs.Letters.{letters}
-use Rattle.rows.specs.Table.{Table, width, rowCount, mark, target}
+use lib.ListN.{getD}
+use Rattle.rows.specs.Table.{Table, width, rowCount, mark}
 use Rattle.rows.specs.Tidy.{Used}
 use Rattle.chains.proofs.Chains.{chained-of}
 use Rattle.index.specs.Buckets.{rowKey, bucket}

@@ -1,12 +1,12 @@
 -- The keys stand behind the chains, so a key that is kept leaves the chains, and a row that is chained leaves the keys. Assumes nothing.
 use Prim.Native.Nat.{ℕ, suc, _+_, _≤_, _<_}
-use mathlib.Core.Path.{_≡_, refl, sym, _∙_}
+use mathlib.Core.Path.{_∙_}
 use mathlib.Core.List.{List}
 use native.Mathlib.Decide.{ℕ-discrete}
 use native.Mathlib.Omega.{arith}
-use lib.ListN.{length, getD, set, replicate, length-set, length-replicate}
+use lib.ListN.{getD, set, replicate, length-set, length-replicate}
 use lib.Seq.{getD-set-same, getD-set-other}
-use Rattle.rows.specs.Table.{Table, rowCount, mostRows}
+use Rattle.rows.specs.Table.{Table, mostRows}
 use Rattle.rows.specs.Tidy.{Used}
 use Rattle.rows.proofs.Zeros.{zero-cell}
 use Rattle.chains.specs.Chains.{linked}

@@ -1,7 +1,7 @@
 -- A search along a chain: rows that agree are in the same bucket, so none of those outside the chain agrees, and of those in it each is looked
 -- at. Assumes nothing.
 use Prim.Native.Nat.{ℕ, _≤_, _<_}
-use mathlib.Core.Path.{_≡_, refl, sym, _∙_}
+use mathlib.Core.Path.{_≡_, sym, _∙_}
 use mathlib.Core.Logic.{inl, inr}
 use mathlib.Core.Bool.{true, false, not, _&&_, and-eq-true-iff, false≢true}
 use mathlib.Core.List.{List}
@@ -9,18 +9,18 @@ use native.Mathlib.Decide.{ℕ-discrete}
 use native.Mathlib.Omega.{arith}
 use borrow.Author.Tests.{eqb-true, eqb-false, ne-eqb, not-true}
 use lib.Dec.{eqb}
-use lib.ListN.{length, getD, length-take, length-drop}
+use lib.ListN.{getD, length-take, length-drop}
 use Rattle.letters.specs.Letters.{letters}
 use Rattle.sets.proofs.Below.{tests-agree, all-below, below-all, some-below, below-some}
-use Rattle.rows.specs.Table.{Table, width, rowCount, mark, target, rowTargets, inUse}
+use Rattle.rows.specs.Table.{Table, rowCount, mark, target, rowTargets, inUse}
 use Rattle.rows.specs.Rules.{agree, hasTwin}
 use Rattle.rows.specs.Tidy.{Used}
 use Rattle.rows.proofs.Facts.{in-use-used, used-in-use}
 use Rattle.rows.proofs.Skipping.{lower-or-not, row-target}
 use Rattle.chains.specs.Chains.{Latest}
 use Rattle.chains.proofs.Chains.{latest-here}
-use Rattle.index.specs.Buckets.{keyOf, rowKey, bucketOf, bucket}
-use Rattle.index.specs.Index.{Indexed, has, agrees, Wanted, Finds}
+use Rattle.index.specs.Buckets.{rowKey, bucketOf, bucket}
+use Rattle.index.specs.Index.{has, agrees, Wanted, Finds}
 use Rattle.index.proofs.Buckets.{same-key, bucket-used, in-bucket}
 
 module _ (t : Table) (r k : ℕ) (targets : List ℕ) where

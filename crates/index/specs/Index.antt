@@ -11,7 +11,7 @@ use Rattle.sets.specs.Below.{allBelow}
 use Rattle.rows.specs.Table.{Table, rowCount, mostRows, mark, target, inUse}
 use Rattle.rows.specs.Tidy.{Used}
 use Rattle.chains.specs.Chains.{Chained}
-use Rattle.index.specs.Buckets.{keyOf, rowKey, bucketOf, bucket, buckets}
+use Rattle.index.specs.Buckets.{keyOf, rowKey, bucket, buckets}
 
 -- the place of a row's key
 abbrev pub keyPlace : ℕ → ℕ

@@ -1,35 +1,31 @@
 -- The row of a pair of rows. A pair of one row twice, or with a missing row, is that row or none. Another pair's row is made letter by letter:
 -- its target is the row of the pair of the targets, which are lower, and what is left of the combined words after the letter is what is left of
--- the two, combined; a letter for which neither row has a target is skipped, as nothing is left after it. Rows in use keep their words while the
--- table grows, and so every pair that is settled stays so. Assumes nothing.
+-- the two, combined. Rows in use keep their words while the table grows, and so every pair that is settled stays so. Assumes nothing.
 use Prim.Native.Nat.{ℕ, zero, suc, _+_, _≤_, _<_, max}
 use native.Mathlib.Omega.{arith}
 use native.Mathlib.Decide.{ℕ-discrete}
-use native.Mathlib.Numerals.{add-one}
 use mathlib.Core.Path.{_≡_, refl, sym, _∙_}
 use mathlib.Core.Logic.{inl, inr}
-use mathlib.Core.Bool.{Bool, true, false, cond}
+use mathlib.Core.Bool.{Bool, true, false, cond, _||_, false≢true}
 use mathlib.Core.List.{List, []}
 use lib.Dec.{eqb, ltb}
 use lib.ListN.{length, getD, set, replicate, length-set, length-replicate, getD-replicate}
 use lib.Seq.{getD-set-same, getD-set-other}
-use borrow.Author.Tests.{ltb-true, ltb-false, lt-ltb, le-ltb, eq-eqb, ne-eqb}
+use borrow.Author.Tests.{ltb-true, ltb-false, lt-ltb, le-ltb, eqb-true, eqb-false, eq-eqb, ne-eqb}
 use Rattle.letters.specs.Each.{Each}
 use Rattle.letters.specs.Letters.{letters}
 use Rattle.letters.specs.Names.{longest}
 use Rattle.sets.specs.Sets.{Words, Plain, member}
 use Rattle.sets.specs.Residuals.{after}
 use Rattle.model.specs.Rules.{combined, chosen}
-use Rattle.model.proofs.Combined.{member-combined, plain-combined, chosen-none, combined-each, after-combined, combined-or-none}
+use Rattle.model.proofs.Combined.{member-combined, plain-combined, combined-each, after-combined, combined-or-none}
 use Rattle.rows.specs.Table.{Table, mostRows, rowCount, mark, target}
 use Rattle.rows.specs.Words.{words}
 use Rattle.rows.specs.Rules.{above}
 use Rattle.rows.specs.Tidy.{Used, Named, Tidy}
 use Rattle.rows.specs.Growth.{Grown}
-use Rattle.rows.specs.Skips.{Arcless}
 use Rattle.rows.proofs.Facts.{no-row, named-cases, named-inside, target-named, target-lower}
 use Rattle.rows.proofs.Zeros.{zero-cell}
-use Rattle.rows.proofs.Skipping.{skips}
 use Rattle.rows.proofs.Words.{words-plain, words-short, words-none, empty-word, words-target}
 use Rattle.rows.proofs.Growth.{mark-kept, height-kept, used-kept, named-kept, words-kept}
 use Rattle.growing.specs.Rows.{endMark}
@@ -38,7 +34,7 @@ use Rattle.growing.specs.declared.makes.Made.the-variants.{Row, Full}
 use Rattle.growing.specs.Growing.{MadeRow, Targets}
 use Rattle.growing.proofs.Growing.{Within, within-after, grows-self}
 use Rattle.growing.proofs.Targets.{end-marked, targets-none, targets-more, targets-full, targets-fit, over-words, targets-made}
-use Rattle.pairing.specs.Pairs.{orNone, atOnce, pairMark, Pair, Pairs, Wide, entry, kept, Settles, Settled, Ready, Combines}
+use Rattle.pairing.specs.Pairs.{orNone, isAtOnce, atOnce, pairMark, Pair, Both, Pairs, Wide, entry, known, kept, Settles, Settled, Ready, Combines}
 
 -- the words of a pair
 abbrev wanted : ℕ → Table → ℕ → ℕ → Words
@@ -60,7 +56,7 @@ none-settled op t lanes enough =
     }
 
 -- the table of pairs with one pair more
-module _ {op : ℕ} {t : Table} {seen : Pairs} (before : Settled op t seen) (p q r : ℕ) (few : (p < length seen) × (q < mostRows)) where
+module _ {op : ℕ} {t : Table} {seen : Pairs} (before : Settled op t seen) (p q r : ℕ) (few : (p < length seen) × (p < mostRows) × (q < mostRows)) where
   row-kept : getD (kept seen p q r) p [] ≡ set (getD seen p []) q (suc r)
   row-kept = getD-set-same seen p _ [] (few .0)
 
@@ -75,7 +71,7 @@ module _ {op : ℕ} {t : Table} {seen : Pairs} (before : Settled op t seen) (p q
       ]
 
   entry-kept : entry (kept seen p q r) p q ≡ suc r
-  entry-kept = rw row-kept (getD-set-same (getD seen p []) q (suc r) 0 (rw (before .wide p (few .0)) (few .1)))
+  entry-kept = rw row-kept (getD-set-same (getD seen p []) q (suc r) 0 (rw (before .wide p (few .0)) (few .2)))
 
   entry-other : (a b : ℕ) → (a ≡ p → b ≡ q → ⊥) → entry (kept seen p q r) a b ≡ entry seen a b
   entry-other a b other =
@@ -101,11 +97,12 @@ module _ {op : ℕ} {t : Table} {seen : Pairs} (before : Settled op t seen) (p q
           ]
 
 -- the numbers of two rows are those of a table of pairs
-pub rows-few : {op : ℕ} {t : Table} {seen : Pairs} {p q : ℕ} → Pair t p q → Settled op t seen → (p < length seen) × (q < mostRows)
+pub rows-few : {op : ℕ} {t : Table} {seen : Pairs} {p q : ℕ} → Pair t p q → Settled op t seen
+    → (p < length seen) × (p < mostRows) × (q < mostRows)
 rows-few {t} {p} {q} rows settled =
     let first = named-inside t (rows .tidy) p (rows .first) in
     let second = named-inside t (rows .tidy) q (rows .second) in
-    (omega (arith, settled .rows), omega (arith, rows .tidy .most))
+    (omega (arith, settled .rows), omega (arith, rows .tidy .most), omega (arith, rows .tidy .most))
 
 -- a settled pair stays settled
 module _ {t u : Table} (tidy : Tidy t) (grown : Grown t u) where
@@ -138,10 +135,10 @@ settles-made {t} tidy settled s =
       settled = settled;
     }
 
--- the same by other names of the rows and of what was made
-pub combines-as : {most op : ℕ} {t u : Table} {seen : Pairs} {p q n k : ℕ} {made told : Made} → made ≡ told → n ≡ p → k ≡ q
-    → Combines most t u seen op n k made → Combines most t u seen op p q told
-combines-as d e f combines = rw d at (rw e at (rw f at combines))
+-- the same by another name of what was made
+pub combines-as : {most op : ℕ} {t u : Table} {seen : Pairs} {p q : ℕ} {made told : Made} → made ≡ told
+    → Combines most t u seen op p q made → Combines most t u seen op p q told
+combines-as e combines = rw e at combines
 
 -- what is ready is a pair of rows
 pub ready-pair : {t : Table} {seen : Pairs} {op p q : ℕ} {ts : List ℕ} → Ready t seen op p q ts → Pair t p q
@@ -178,15 +175,45 @@ module _ {op : ℕ} {t : Table} {p q : ℕ} (rows : Pair t p q) where
       or-none true = refl
       or-none false = words-none t 0 (no-row t 0 refl)
 
-  pub at-once-settles : ((p ≡ q → ⊥) → 0 < p → q ≡ 0) → Settles op t p q (atOnce op p q)
+  at-once-settles : isAtOnce p q ≡ true → Settles op t p q (atOnce op p q)
   at-once-settles once =
       elim (ℕ-discrete p 0) [
         | yes e ↦ rw (eq-eqb p 0 e) (or-none-settles false true q (rows .second) (words-none t p (no-row t p e)) refl)
         | no e ↦ rw (ne-eqb p 0 e) (elim (ℕ-discrete p q) [
           | yes d ↦ rw (eq-eqb p q d) (or-none-settles true true p (rows .first) refl (rw d))
-          | no d ↦ rw (ne-eqb p q d) (or-none-settles true false p (rows .first) refl (words-none t q (no-row t q (once d (omega arith)))))
+          | no d ↦
+              let none : q ≡ 0 = eqb-true q 0 (rw (ne-eqb p q d, ne-eqb p 0 e) at once) in
+              rw (ne-eqb p q d) (or-none-settles true false p (rows .first) refl (words-none t q (no-row t q none)))
         ])
       ]
+
+  module _ {seen : Pairs} (settled : Settled op t seen) where
+    -- a pair of which something is known is settled
+    pub known-settles : (r : ℕ) → known seen op p q ≡ suc r → Settles op t p q r
+    known-settles r = go (isAtOnce p q) refl
+      where
+        go : (b : Bool) → isAtOnce p q ≡ b → cond b (suc (atOnce op p q)) (entry seen p q) ≡ suc r → Settles op t p q r
+        go true once e = let same : atOnce op p q ≡ r = omega arith in rw same at (at-once-settles once)
+        go false _ e = settled .settled p q r e
+
+    -- the rows of any other are in use
+    pub unknown-both : known seen op p q ≡ 0 → Both t p q
+    unknown-both = go (isAtOnce p q) refl
+      where
+        neither : (a b : Bool) → (a || b) ≡ false → (a ≡ false) × (b ≡ false)
+        neither true b e = absurd (false≢true (sym e))
+        neither false b e = (refl, e)
+
+        go : (b : Bool) → isAtOnce p q ≡ b → cond b (suc (atOnce op p q)) (entry seen p q) ≡ 0 → Both t p q
+        go true _ e = absurd (omega arith)
+        go false other _ =
+            let (d, e) = neither (eqb p q || eqb p 0) (eqb q 0) other in
+            let (_, f) = neither (eqb p q) (eqb p 0) d in
+            record {
+              tidy = rows .tidy;
+              first = rows .first (omega (arith, eqb-false p 0 f));
+              second = rows .second (omega (arith, eqb-false q 0 e));
+            }
 
 -- what a target asks of the height is less than what its row asks
 target-below : (t : Table) → Tidy t → (r x : ℕ) → Used t r → x < letters → above t (target t r x) < above t r
@@ -196,12 +223,6 @@ target-below t tidy r x used h =
       | inl v ↦ rw (ne-eqb (target t r x) 0 (λ e. omega (arith, v .positive))) (omega (arith, target-lower t tidy r x used h v))
       | inr e ↦ rw e (omega arith)
     ])
-
--- two rows in use, of a tidy table
-pub record Both (t : Table) (p q : ℕ) : Type 0 where
-  pub tidy : Tidy t
-  pub first : Used t p
-  pub second : Used t q
 
 -- the table has grown from t to u: the pairs of the targets are settled for the letters below x
 pub record SoFar (op : ℕ) (t : Table) (p q : ℕ) (u : Table) (seen : Pairs) (ts : List ℕ) (x : ℕ) : Type 0 where
@@ -235,29 +256,32 @@ module _ {op : ℕ} {t : Table} {p q : ℕ} (rows : Both t p q) where
           second = used-kept t u grown q (rows .second);
         }
 
-    module _ (letter : x < letters) where
-      pub next-pair : Pair u (target u p x) (target u q x)
+    -- n and k are the targets for the letter x
+    module _ {n k : ℕ} (letter : x < letters) (first : n ≡ target u p x) (second : k ≡ target u q x) where
+      pub next-pair : Pair u n k
       next-pair =
           record {
             tidy = both-kept .tidy;
-            first = target-named u (both-kept .tidy) p x (both-kept .first) letter;
-            second = target-named u (both-kept .tidy) q x (both-kept .second) letter;
+            first = rw first (target-named u (both-kept .tidy) p x (both-kept .first) letter);
+            second = rw second (target-named u (both-kept .tidy) q x (both-kept .second) letter);
           }
 
       -- the greater height of the two falls
-      pub next-lower : max (above u (target u p x)) (above u (target u q x)) < max (above t p) (above t q)
+      pub next-lower : max (above u n) (above u k) < max (above t p) (above t q)
       next-lower =
-          omega (
+          rw (first, second)
+          (omega (
             arith,
             rw (height-kept t u grown p (rows .first)) at (target-below u (both-kept .tidy) p x (both-kept .first) letter),
             rw (height-kept t u grown q (rows .second)) at (target-below u (both-kept .tidy) q x (both-kept .second) letter),
-          )
+          ))
 
-      next-words : wanted op u (target u p x) (target u q x) ≡ after x (wanted op t p q)
+      next-words : wanted op u n k ≡ after x (wanted op t p q)
       next-words =
-          rw (words-target u (both-kept .tidy) p x (both-kept .first) letter, words-target u (both-kept .tidy) q x (both-kept .second) letter)
+          rw (first, second)
+          (rw (words-target u (both-kept .tidy) p x (both-kept .first) letter, words-target u (both-kept .tidy) q x (both-kept .second) letter)
           (rw (words-kept t u grown (rows .tidy) p (λ _. rows .first), words-kept t u grown (rows .tidy) q (λ _. rows .second))
-          (sym (after-combined op x _ _ (words-plain t p) (words-plain t q))))
+          (sym (after-combined op x _ _ (words-plain t p) (words-plain t q)))))
 
       next-within : Within (after x (wanted op t p q)) (wanted op t p q)
       next-within = within-after x letter (wanted op t p q)
@@ -274,7 +298,7 @@ module _ {op : ℕ} {t : Table} {p q : ℕ} (rows : Both t p q) where
           step true e = lt-ltb y (x + 1) (omega (arith, ltb-true y x e))
           step false e = le-ltb y (x + 1) (omega (arith, ltb-false y x e))
 
-      pub one-more : {most r : ℕ} {v : Table} {seen′ : Pairs} → Combines most u v seen′ op (target u p x) (target u q x) (Row r)
+      pub one-more : {most r : ℕ} {v : Table} {seen′ : Pairs} → Combines most u v seen′ op n k (Row r)
           → SoFar op t p q v seen′ (set ts x r) (x + 1)
       one-more {most} {r} {v} next =
           record {
@@ -282,29 +306,7 @@ module _ {op : ℕ} {t : Table} {p q : ℕ} (rows : Both t p q) where
             targets = targets-more (so-far .targets) v most x r _ letter (rw passed (rw next-words at (next .makes))) (rw passed next-within) others-same;
           }
 
-      -- a letter for which neither row has a target may be skipped
-      nothing-left : target u p x ≡ 0 → target u q x ≡ 0 → after x (wanted op t p q) ≡ []
-      nothing-left d e =
-          sym next-words
-          ∙ rw (d, e, words-none u 0 (no-row u 0 refl)) (combined-or-none op false false (words u p) (words-plain u p) ∙ rw (chosen-none op))
-
-      skip-one : target u p x ≡ 0 → target u q x ≡ 0 → SoFar op t p q u seen ts (suc x)
-      skip-one d e =
-          record {
-            settled = so-far .settled;
-            targets =
-                record {
-                  grows = so-far .targets .grows;
-                  long = so-far .targets .long;
-                  named = so-far .targets .named;
-                  has = λ y h. so-far .targets .has y h ∙ rw (← add-one x) (elim (ℕ-discrete y x) [
-                    | yes f ↦ rw (f, passed, nothing-left d e, le-ltb x x (omega arith))
-                    | no f ↦ sym (others-same y h f)
-                  ]);
-                };
-          }
-
-      pub no-room : {most : ℕ} {v : Table} {seen′ : Pairs} → Combines most u v seen′ op (target u p x) (target u q x) Full
+      pub no-room : {most : ℕ} {v : Table} {seen′ : Pairs} → Combines most u v seen′ op n k Full
           → Combines (rowCount t) t v seen′ op p q Full
       no-room {v} next =
           record {
@@ -347,13 +349,3 @@ module _ {op : ℕ} {t : Table} {p q : ℕ} (rows : Both t p q) where
             makes = targets-made (so-far .targets) plain short all v made (rw (mark-chosen, all-ready .over) (last .makes));
             settled = last .settled;
           }
-
-  -- and so may all of them up to e
-  pub skip-letters : {u : Table} {seen : Pairs} {ts : List ℕ} {x e : ℕ} → SoFar op t p q u seen ts x → Arcless u p x e → Arcless u q x e
-      → SoFar op t p q u seen ts e
-  skip-letters {u} {seen} {ts} {x} {e} so-far first second =
-      skips u p (λ y. y ≤ e → (x ≤ y) × SoFar op t p q u seen ts y)
-      (λ y none before low.
-      let (from, there) = before (omega arith) in
-      (omega arith, skip-one there (omega (arith, first .to)) none (second .none y from (omega arith))))
-      x e first (λ _. (omega arith, so-far)) (omega arith) .1

@@ -1,7 +1,7 @@
 -- A pair of rows, its row, and the table of settled pairs. Assumes nothing.
 use Prim.Native.Nat.{ℕ, suc, _≤_, _<_}
 use mathlib.Core.Path.{_≡_}
-use mathlib.Core.Bool.{Bool, true, false, cond}
+use mathlib.Core.Bool.{Bool, true, false, cond, _||_}
 use mathlib.Core.List.{List, []}
 use lib.Dec.{eqb}
 use lib.ListN.{length, getD, set}
@@ -19,11 +19,21 @@ pub record Pair (t : Table) (p q : ℕ) : Type 0 where
   pub first : Named t p
   pub second : Named t q
 
+-- two rows in use, of a tidy table
+pub record Both (t : Table) (p q : ℕ) : Type 0 where
+  pub tidy : Tidy t
+  pub first : Used t p
+  pub second : Used t q
+
 -- the row, or none
 abbrev pub orNone : Bool → ℕ → ℕ
 orNone wanted r = cond wanted r 0
 
--- the row of a pair that is settled at once: of one row twice, or with a missing row
+-- a pair that is settled at once: of one row twice, or with a missing row
+abbrev pub isAtOnce : ℕ → ℕ → Bool
+isAtOnce p q = eqb p q || eqb p 0 || eqb q 0
+
+-- its row
 abbrev pub atOnce : ℕ → ℕ → ℕ → ℕ
 atOnce op p q = cond (eqb p 0) (orNone (chosen op false true) q) (orNone (chosen op true (eqb p q)) p)
 
@@ -41,6 +51,10 @@ Wide seen = (p : ℕ) → p < length seen → length (getD seen p []) ≡ mostRo
 -- one more than the row of the pair, or 0 where the pair is not settled yet
 abbrev pub entry : Pairs → ℕ → ℕ → ℕ
 entry seen p q = getD (getD seen p []) q 0
+
+-- the same, with the pairs that are settled at once
+abbrev pub known : Pairs → ℕ → ℕ → ℕ → ℕ
+known seen op p q = cond (isAtOnce p q) (suc (atOnce op p q)) (entry seen p q)
 
 -- the table with this row for the pair
 abbrev pub kept : Pairs → ℕ → ℕ → ℕ → Pairs

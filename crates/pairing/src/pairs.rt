@@ -9,20 +9,18 @@ use growing::make;
 use letters::LETTERS;
 use rows::MOST_ROWS;
 use rows::mark;
-use rows::next_arc;
 use rows::row_count;
 use rows::target;
-ghost use Prim.Native.Nat.{_≤_};
+ghost use Prim.Native.Nat.{_<_};
 ghost use mathlib.Core.Path.{_≡_};
-ghost use Rattle.letters.specs.Letters.{letters};
+ghost use lib.ListN.{length};
 ghost use Rattle.model.specs.Rules.{combined};
-ghost use Rattle.rows.specs.Table.{rowCount};
+ghost use Rattle.rows.specs.Table.{mostRows, rowCount};
 ghost use Rattle.rows.specs.Words.{words};
 ghost use Rattle.rows.specs.Tidy.{Used};
-ghost use Rattle.rows.specs.Skips.{Arcless};
 ghost use Rattle.index.specs.Index.{Indexed};
 ghost use Rattle.growing.specs.Growing.{Makes};
-ghost use Rattle.pairing.specs.Pairs.{pairMark, Pair, Settled, Ready, Combines};
+ghost use Rattle.pairing.specs.Pairs.{pairMark, Pair, Both, Wide, known, Settled, Ready, Combines};
 
 // The mark of the row for the pair: a name may end there if the operation chooses the empty word.
 fn pair_mark(t: &[u16], op: u32, p: usize, q: usize) -> u16
@@ -30,16 +28,6 @@ fn pair_mark(t: &[u16], op: u32, p: usize, q: usize) -> u16
     ensures { λ k. ⌜ k ≡ pairMark (now (t .entry)) op p q ⌝ }
 {
     end_mark(chosen(op, mark(t, p) == 2, mark(t, q) == 2))
-}
-
-// The first letter from x on that one of the two rows has a target for, or the number of letters.
-fn next_arc_of(t: &[u16], p: usize, q: usize, x: usize) -> usize
-    requires { ⌜ Used (now t) p × Used (now t) q × (x ≤ letters) ⌝ }
-    ensures { λ e. ⌜ Arcless (now (t .entry)) p x e × Arcless (now (t .entry)) q x e ⌝ }
-{
-    let a = next_arc(t, p, x);
-    let b = next_arc(t, q, x);
-    if a < b { a } else { b }
 }
 
 // Makes the row of the pair, whose targets are there, and keeps it.
@@ -64,7 +52,52 @@ fn settle_pair(
     Made::Row(r)
 }
 
-// The greater height of the two falls, as every target is lower than its row.
+// What is known of the pair: one more than its row, or 0 where it is not settled yet.
+fn known(seen: &[[u16; MOST_ROWS]], op: u32, p: u16, q: u16) -> u16
+    requires { ⌜ Wide (now seen) × (p < length (now seen)) × (p < mostRows) × (q < mostRows) ⌝ }
+    ensures { λ n. ⌜ n ≡ known (now (seen .entry)) op p q ⌝ }
+{
+    if p == q || p == 0 || q == 0 {
+        return at_once(op, p, q) + 1;
+    }
+    entry(seen, p, q)
+}
+
+// The row of a pair of rows in use that is not settled yet: the pairs of the targets first, letter by letter. The greater
+// height of the two falls, as every target is lower than its row.
+fn new_pair(
+    t: &mut [u16],
+    index: &mut [u16],
+    seen: &mut [[u16; MOST_ROWS]],
+    op: u32,
+    p: u16,
+    q: u16,
+) -> Made
+    requires { ⌜ Both (now t) p q × Settled op (now t) (now seen) × Indexed (now t) (now index) ⌝ }
+    ensures combines { λ made. ⌜ Combines (rowCount (now (t .entry))) (now (t .entry)) (now (t .exit)) (now (seen .exit)) op p q made ⌝ }
+    ensures indexed { λ _. ⌜ Indexed (now (t .exit)) (now (index .exit)) ⌝ }
+{
+    let mut targets = [0u16; LETTERS];
+    let mut x = 0;
+    while x < LETTERS {
+        let n = target(t, p as usize, x);
+        let k = target(t, q as usize, x);
+        let settled = known(seen, op, n, k);
+        if settled != 0 {
+            targets[x] = settled - 1;
+            x += 1;
+            continue;
+        }
+        let Made::Row(r) = new_pair(t, index, seen, op, n, k) else {
+            return Made::Full;
+        };
+        targets[x] = r;
+        x += 1;
+    }
+    settle_pair(t, index, seen, op, p, q, targets)
+}
+
+// The row of a pair.
 fn pair(
     t: &mut [u16],
     index: &mut [u16],
@@ -77,25 +110,11 @@ fn pair(
     ensures combines { λ made. ⌜ Combines (rowCount (now (t .entry))) (now (t .entry)) (now (t .exit)) (now (seen .exit)) op p q made ⌝ }
     ensures indexed { λ _. ⌜ Indexed (now (t .exit)) (now (index .exit)) ⌝ }
 {
-    if p == q || p == 0 || q == 0 {
-        return Made::Row(at_once(op, p, q));
+    let settled = known(seen, op, p, q);
+    if settled != 0 {
+        return Made::Row(settled - 1);
     }
-    let known = entry(seen, p, q);
-    if known != 0 {
-        return Made::Row(known - 1);
-    }
-    let mut targets = [0u16; LETTERS];
-    let mut x = next_arc_of(t, p as usize, q as usize, 0);
-    while x < LETTERS {
-        let n = target(t, p as usize, x);
-        let k = target(t, q as usize, x);
-        let Made::Row(r) = pair(t, index, seen, op, n, k) else {
-            return Made::Full;
-        };
-        targets[x] = r;
-        x = next_arc_of(t, p as usize, q as usize, x + 1);
-    }
-    settle_pair(t, index, seen, op, p, q, targets)
+    new_pair(t, index, seen, op, p, q)
 }
 
 // A book of so few rows has a table of pairs of its own, since all of the table is cleared first.

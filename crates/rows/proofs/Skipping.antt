@@ -1,6 +1,6 @@
 -- What eight zeros say of the numbers, how zeros add up, and how a loop goes past letters without a target. Assumes nothing.
 use Prim.Native.Nat.{ℕ, zero, suc, _+_, _-_, _*_, _≤_, _<_}
-use mathlib.Core.Path.{_≡_, refl, sym, _∙_}
+use mathlib.Core.Path.{_≡_, refl, sym}
 use mathlib.Core.Bool.{Bool, true, false, _&&_, and-eq-true-iff}
 use mathlib.Core.Logic.{_⊎_, inl, inr}
 use mathlib.Core.List.{List}
@@ -9,13 +9,12 @@ use native.Mathlib.Omega.{arith}
 use borrow.Author.Tests.{eq-eqb, ne-eqb, eqb-true, ltb-true, ltb-false}
 use lib.Bits.{bitOr, or-add-and, and-le-l, and-le-r}
 use lib.Dec.{eqb, ltb}
-use lib.ListN.{length, getD}
+use lib.ListN.{getD}
 use lib.Seq.{getD-take, getD-drop}
 use Rattle.letters.specs.Letters.{letters}
-use Rattle.sets.specs.Below.{allBelow}
 use Rattle.sets.proofs.Below.{all-below}
 use Rattle.sets.proofs.Membership.{fails}
-use Rattle.rows.specs.Table.{Table, width, rowCount, target, rowTargets}
+use Rattle.rows.specs.Table.{Table, width, target, rowTargets}
 use Rattle.rows.specs.Skips.{eightZeros, Zeros, Skipped, Arcless}
 
 -- the bits of both are none exactly if neither has any

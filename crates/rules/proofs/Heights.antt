@@ -1,14 +1,14 @@
 -- What rule 3 gives for a row in use: its arcs are fine, so its height is the greatest that a target asks for, and that is above 0 exactly if
--- there is a target. So rows with the same targets have the same height. Assumes nothing.
-use Prim.Native.Nat.{ℕ, zero, suc, _<_, max}
-use mathlib.Core.Path.{_≡_, refl, sym, _∙_}
+-- there is a target. Assumes nothing.
+use Prim.Native.Nat.{ℕ, zero, suc, max}
+use mathlib.Core.Path.{_≡_, refl, _∙_}
 use mathlib.Core.Bool.{Bool, true, false, _&&_, _||_, and-eq-true-iff}
 use lib.Dec.{eqb, leb, ltb}
 use native.Mathlib.Omega.{arith}
 use borrow.Author.Tests.{ltb-true, ltb-false, eqb-true, lt-ltb, le-ltb, ne-eqb}
 use Rattle.letters.specs.Letters.{letters}
 use Rattle.letters.specs.Names.{longest}
-use Rattle.sets.specs.Below.{allBelow, someBelow, greatest}
+use Rattle.sets.specs.Below.{someBelow, greatest}
 use Rattle.sets.proofs.Below.{all-below}
 use Rattle.rows.specs.Table.{Table, height, target, inUse}
 use Rattle.rows.specs.Rules.{ifUsed, targetsOk, above, heightOk, lastOk, arcsOk, hasTarget, rule3}
@@ -29,11 +29,6 @@ unfolding someBelow greatest
 greatest-positive zero test given e = refl
 greatest-positive (suc n) test given e = max-positive (greatest n given) (given n) ∙ rw (greatest-positive n test given e, e n)
 
-greatest-same : (n : ℕ) (given other : ℕ → ℕ) → ((i : ℕ) → i < n → given i ≡ other i) → greatest n given ≡ greatest n other
-unfolding greatest
-greatest-same zero given other e = refl
-greatest-same (suc n) given other e = rw (greatest-same n given other (λ i h. e i (omega arith)), e n (omega arith))
-
 -- a target asks for something
 above-positive : (t : Table) (n : ℕ) → ltb 0 (above t n) ≡ ltb 0 n
 above-positive t zero = refl
@@ -53,11 +48,3 @@ module _ (t : Table) (holds : rule3 t ≡ true) (r : ℕ) (used : inUse t r ≡ 
   pub has-target : ltb 0 (height t r) ≡ hasTarget t r
   has-target =
       rw height-greatest (greatest-positive letters (λ x. ltb 0 (target t r x)) (λ x. above t (target t r x)) (λ x. above-positive t (target t r x)))
-
--- rows in use with the same targets have the same height
-pub same-height : (t : Table) → rule3 t ≡ true → (r s : ℕ) → inUse t r ≡ true → inUse t s ≡ true
-    → allBelow letters (λ x. eqb (target t r x) (target t s x)) ≡ true → height t r ≡ height t s
-same-height t holds r s used other same =
-    height-greatest t holds r used
-    ∙ greatest-same letters _ _ (λ x h. rw (eqb-true (target t r x) (target t s x) (all-below _ letters same x h)))
-    ∙ sym (height-greatest t holds s other)

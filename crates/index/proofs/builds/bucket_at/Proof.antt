@@ -1,6 +1,5 @@
 -- `bucket_at` meets its promise: the mark tells a free row, and the index has the key of a row in use. Assumes nothing.
-use Prim.Native.Nat.{_<_}
-use mathlib.Core.Path.{_≡_, sym, _∙_}
+use mathlib.Core.Path.{sym, _∙_}
 use native.Mathlib.Omega.{arith}
 use borrow.Author.Needs.{needs}
 use Rattle.rows.specs.Tidy.{Used}

@@ -1,6 +1,5 @@
 -- `find` meets its promise: the search begins at the last row of the key's bucket. Assumes nothing.
 use Prim.Native.Nat.{_<_}
-use mathlib.Core.Path.{_≡_}
 use native.Mathlib.Omega.{arith}
 use borrow.Author.Needs.{needs}
 use Rattle.rows.specs.Table.{rowCount}

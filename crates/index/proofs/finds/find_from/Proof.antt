@@ -2,10 +2,7 @@
 -- fall, so the measure is `r`. Assumes nothing.
 use Prim.Native.Nat.{_<_}
 use mathlib.Core.Path.{_≡_, sym, _∙_}
-use mathlib.Core.Bool.{true}
 use native.Mathlib.Omega.{arith}
-use borrow.Author.Needs.{needs}
-use Rattle.rows.specs.Table.{inUse}
 use Rattle.rows.proofs.Facts.{used-in-use}
 use Rattle.chains.specs.Chains.{Latest}
 use Rattle.index.specs.Buckets.{bucket}

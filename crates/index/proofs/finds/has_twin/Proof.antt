@@ -1,7 +1,6 @@
 -- `has_twin` meets its promise: the rows before it in its chain are all that can agree with it. Assumes nothing.
-use mathlib.Core.Path.{_≡_, sym, _∙_}
+use mathlib.Core.Path.{_∙_}
 use native.Mathlib.Omega.{arith}
-use borrow.Author.Needs.{needs}
 use Rattle.rows.specs.Tidy.{Used}
 use Rattle.rows.proofs.Facts.{in-use-used}
 use Rattle.chains.specs.Chains.{Latest}

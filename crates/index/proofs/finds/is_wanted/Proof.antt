@@ -1,5 +1,5 @@
 -- `is_wanted` meets its promise: a row with the mark and the targets has their key. Assumes nothing.
-use mathlib.Core.Path.{_≡_, sym, _∙_}
+use mathlib.Core.Path.{sym, _∙_}
 use native.Mathlib.Omega.{arith}
 use borrow.Author.Needs.{needs}
 use Rattle.sets.proofs.Membership.{fails}

@@ -47,7 +47,7 @@ keep-requires c κs =
     let made = rw (row, called .before .before .before .pair-mark .ensures, ready .over) at (called .make .ensures .0) in
     let few = rows-few (ready-pair ready) (ready .settled) in
     let inside = named-inside _ (made .grows .tidy) _ (made .named) in
-    (ready .settled .wide, few .0, few .1, omega (arith, made .grows .tidy .most))
+    (ready .settled .wide, few .0, few .2, omega (arith, made .grows .tidy .most))
 
 same-length-3 : tie.Need-same-length-3
 same-length-3 c = search needs

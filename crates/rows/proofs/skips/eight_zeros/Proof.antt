@@ -1,7 +1,7 @@
 -- `eight_zeros` meets its promise. The loop's invariant: the bits of the numbers before `i` are none exactly if they are zeros. The measure is the
 -- numbers that are left. Assumes nothing.
 use Prim.Native.Nat.{_+_, _-_, _≤_}
-use mathlib.Core.Path.{_≡_, refl, sym, _∙_}
+use mathlib.Core.Path.{_≡_, refl, _∙_}
 use native.Mathlib.Numerals.{add-one}
 use lib.Dec.{eqb}
 use lib.ListN.{getD}

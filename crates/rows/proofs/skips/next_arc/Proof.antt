@@ -1,5 +1,4 @@
 -- `next_arc` meets its promise: the places that are skipped are those of letters without a target. Assumes nothing.
-use native.Mathlib.Omega.{arith}
 use borrow.Author.Needs.{needs}
 use Rattle.rows.proofs.Skipping.{skipped-arcless}
 use Rattle.rows.proofs.skips.next_arc.Statement.{statement}

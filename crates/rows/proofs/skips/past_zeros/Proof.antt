@@ -1,5 +1,4 @@
 -- `past_zeros` meets its promise: the numbers that both loops skip are 0. Assumes nothing.
-use native.Mathlib.Omega.{arith}
 use borrow.Author.Needs.{needs}
 use Rattle.rows.proofs.Skipping.{skipped-both}
 use Rattle.rows.proofs.skips.past_zeros.Statement.{statement}

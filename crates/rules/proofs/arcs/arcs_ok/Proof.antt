@@ -15,7 +15,7 @@ use Rattle.letters.specs.Letters.{letters}
 use Rattle.letters.specs.Names.{longest}
 use Rattle.sets.specs.Below.{allBelow, someBelow, greatest}
 use Rattle.sets.proofs.Below.{not-all-below}
-use Rattle.rows.specs.Table.{Table, mostRows, mark, height, target, inUse}
+use Rattle.rows.specs.Table.{Table, mark, height, target, inUse}
 use Rattle.rows.specs.Rules.{above, lastOk, arcsOk}
 use Rattle.rules.specs.declared.arcs.Asked.the-variants.{Height, Broken}
 use Rattle.rules.specs.Asked.{asksIf, asks}
