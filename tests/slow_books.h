@@ -190,20 +190,18 @@ inline std::size_t rows_asked(const std::string &list) {
 // The index finds a row by a key of 16 bits (crates/index/src/keys.rt): the mark and the targets, each times a factor,
 // are added, and the key is half of the lower 32 bits. It looks in turn at the rows that have the key.
 constexpr uint32_t mark_factor = 2654435761;
-constexpr std::array<uint32_t, letters> factors = {
-    1372175473, 2158288731, 4085985277, 2198261819, 2779694999, 3693674385, 4092891721, 3797265611,
-    3843167363, 2581407005, 2669253893, 2390402793, 1806527459, 3364563061, 2459164303, 2352832279,
-    3618087885, 3137641081, 3335353833, 3299030207, 2108418345, 3225631933, 3320322299, 2519087847,
-    1894488587, 2637987309, 1233687313, 3507963309, 1931252819, 3499379095, 3826659847, 2942817377,
-    2105765495, 2917953297, 1349621007, 1706035757, 1080240573,
-};
+
+inline uint32_t factor(unsigned x) {
+    const uint32_t root = x * 2654435761 + 1640531527;
+    return root * root;
+}
 
 // Finds targets that lead to `whole` but with three letters, and have the key of those that lead there with all.
 class OneKey {
   public:
     OneKey(uint16_t whole, const Rows &parts) : whole(whole), sum(mark_factor) {
         unused.fill(parts);
-        for (const uint32_t factor : factors) sum += whole * factor;
+        for (unsigned x = 0; x < letters; ++x) sum += whole * factor(x);
     }
     // The first of the three letters is given. No letter leads to a part that it led to before.
     bool find(unsigned x, Targets &targets) {
@@ -218,7 +216,7 @@ class OneKey {
 
     bool turn_off(unsigned x, uint32_t m, unsigned letters_left, Targets &targets) {
         for (auto part = unused[x].begin(); part != unused[x].end(); ++part)
-            if (go_on(x + 1, m + (*part - whole) * factors[x], letters_left - 1, targets)) {
+            if (go_on(x + 1, m + (*part - whole) * factor(x), letters_left - 1, targets)) {
                 targets[x] = *part;
                 unused[x].erase(part);
                 return true;

@@ -1,9 +1,10 @@
 -- The words of a row are the empty word, where a name may end there, and letter by letter those of the targets behind their letter. So their
 -- number, how many of them stand before a word, and the n-th of them go letter by letter: those that begin with a lower letter all stand
--- before, those that begin with a higher one do not, and the letters without a target may be skipped. Where the words of the row are no more
--- than the array counts, its numbers are exact. Assumes nothing.
+-- before, those that begin with a higher one do not, and the letters without a target may be skipped. Where a row is counted and its words are
+-- no more than the array counts, its number is exact, and so are those of its targets. Assumes nothing.
 use Prim.Native.Nat.{ℕ, zero, suc, _+_, _≤_, _<_, min}
 use native.Mathlib.Omega.{arith}
+use native.Mathlib.Decide.{ℕ-discrete}
 use mathlib.Core.Path.{_≡_, refl, _∙_}
 use mathlib.Core.Bool.{Bool, true, false, cond}
 use mathlib.Core.List.{List, [], _∷_, _++_}
@@ -23,12 +24,12 @@ use Rattle.model.specs.Lists.{rankOf, nthOf}
 use Rattle.rows.specs.Table.{Table, target, ends}
 use Rattle.rows.specs.Walk.{hasArc}
 use Rattle.rows.specs.Words.{behind, words}
-use Rattle.rows.specs.Tidy.{Used, Named, Tidy}
+use Rattle.rows.specs.Tidy.{Used, Arc, Tidy}
 use Rattle.rows.specs.Skips.{Arcless}
-use Rattle.rows.proofs.Facts.{no-row, used-row, named-inside, target-named}
+use Rattle.rows.proofs.Facts.{no-row, used-row, named-inside}
 use Rattle.rows.proofs.Words.{words-row, words-none}
 use Rattle.counting.specs.Ahead.{aheadBy, ahead}
-use Rattle.counting.specs.Counts.{countAt, Counts}
+use Rattle.counting.specs.Counts.{countAt, Counts, CountedRow, Counted}
 
 -- the empty word, or nothing
 abbrev ended : Bool → Words
@@ -137,22 +138,28 @@ module _ (t : Table) (tidy : Tidy t) (r : ℕ) (u : Used t r) where
       (getD-append-add (ended (ends t r)) _ _ [] ∙ over-at _ letters x n [] h (rw length-map below) ∙ nth-behind x (given x) n below)
 
 module _ (t : Table) (counts : List ℕ) (c : Counts t counts) where
-  -- the array has a number for every row, and for 0
-  pub count-inside : (n : ℕ) → Named t n → n < length counts
-  count-inside n named = omega (arith, named-inside t (c .tidy) n named, c .long)
+  -- the array has a number for every row that is counted, and for 0
+  pub count-inside : (n : ℕ) → Counted t counts n → n < length counts
+  count-inside n counted = omega (arith, named-inside t (c .tidy) n (λ some. counted some .used), c .long)
 
-  pub count-none : countAt counts 0 ≡ 0
-  count-none = c .counted 0 (λ some. absurd (omega arith)) ∙ rw (words-none t 0 (no-row t 0 refl))
+  pub count-exact : (n : ℕ) → Counted t counts n → length (words t n) ≤ most → countAt counts n ≡ length (words t n)
+  count-exact n counted few =
+      elim (ℕ-discrete n 0) [
+        | yes e ↦ rw (words-none t n (no-row t n e), e) (c .none)
+        | no d ↦ let row = counted (omega arith) in omega (arith, c .counted n (row .used) (row .some))
+      ]
 
-  pub count-exact : (n : ℕ) → Named t n → length (words t n) ≤ most → countAt counts n ≡ length (words t n)
-  count-exact n named few = omega (arith, c .counted n named)
+  module _ (r : ℕ) (row : CountedRow t counts r) where
+    pub target-counted : (x : ℕ) → x < letters → Counted t counts (target t r x)
+    target-counted x h there =
+        let arc : Arc t r x = record { used = row .used; letter = h; there = there } in
+        record { used = c .tidy .targets r x arc; some = c .below r x arc (row .some) }
 
-  pub ahead-counts : (r : ℕ) → Used t r → length (words t r) ≤ most → (x : ℕ) → x ≤ letters
-      → aheadBy (λ s. countAt counts s) t r x ≡ ahead t r x
-  ahead-counts r u few x h =
-      rw (total-agree x (λ y. countAt counts (target t r y)) (λ y. length (words t (target t r y))) exact)
-    where
-      exact : (y : ℕ) → y < x → countAt counts (target t r y) ≡ length (words t (target t r y))
-      exact y below =
-          let letter : y < letters = omega arith in
-          count-exact (target t r y) (target-named t (c .tidy) r y u letter) (omega (arith, target-few t (c .tidy) r u y letter))
+    pub ahead-counts : length (words t r) ≤ most → (x : ℕ) → x ≤ letters → aheadBy (λ s. countAt counts s) t r x ≡ ahead t r x
+    ahead-counts few x h =
+        rw (total-agree x (λ y. countAt counts (target t r y)) (λ y. length (words t (target t r y))) exact)
+      where
+        exact : (y : ℕ) → y < x → countAt counts (target t r y) ≡ length (words t (target t r y))
+        exact y below =
+            let letter : y < letters = omega arith in
+            count-exact (target t r y) (target-counted y letter) (omega (arith, target-few t (c .tidy) r (row .used) y letter))

@@ -1,30 +1,40 @@
--- An array with the number of words from each row. It is filled by rising height. Assumes nothing.
-use Prim.Native.Nat.{ℕ, _+_, _*_, _-_, _≤_, _<_}
+-- An array with the number of words from each row that is counted. Assumes nothing.
+use Prim.Native.Nat.{ℕ, _≤_, _<_}
 use mathlib.Core.Path.{_≡_}
 use mathlib.Core.List.{List}
 use lib.ListN.{length, getD}
 use Rattle.sets.specs.Cut.{cut}
-use Rattle.rows.specs.Table.{Table, rowCount, mostRows, height}
+use Rattle.rows.specs.Table.{Table, rowCount, target}
 use Rattle.rows.specs.Words.{words}
-use Rattle.rows.specs.Tidy.{Used, Named, Tidy}
+use Rattle.rows.specs.Tidy.{Used, Arc, Tidy}
 
--- the array's number for a row
+-- the array's number for a row; 0 says that the row is not counted
 abbrev pub countAt : List ℕ → ℕ → ℕ
 countAt counts n = getD counts n 0
 
--- the rows in the order in which they are counted: by rising height, and those of one height by falling number
-abbrev pub turn : ℕ → ℕ → ℕ
-turn height r = height * mostRows + (mostRows - r)
-
--- in a tidy table, the rows whose turn comes before this one are counted; 0 is no row and has no words
-pub record CountedTo (t : Table) (end : ℕ) (counts : List ℕ) : Type 0 where
-  pub tidy : Tidy t
-  pub long : rowCount t ≤ length counts
-  pub none : countAt counts 0 ≡ 0
-  pub before : (r : ℕ) → Used t r → turn (height t r) r < end → countAt counts r ≡ cut (length (words t r))
-
--- in a tidy table, all rows are counted: the number of words from each, cut above 60,000
+-- in a tidy table, a row that is counted has the number of words from it, cut above 60,000, and its targets are counted; 0 is no row
 pub record Counts (t : Table) (counts : List ℕ) : Type 0 where
   pub tidy : Tidy t
   pub long : rowCount t ≤ length counts
-  pub counted : (n : ℕ) → Named t n → countAt counts n ≡ cut (length (words t n))
+  pub none : countAt counts 0 ≡ 0
+  pub counted : (n : ℕ) → Used t n → 0 < countAt counts n → countAt counts n ≡ cut (length (words t n))
+  pub below : (r x : ℕ) → Arc t r x → 0 < countAt counts r → 0 < countAt counts (target t r x)
+
+-- r is a row in use that is counted
+pub record CountedRow (t : Table) (counts : List ℕ) (r : ℕ) : Type 0 where
+  pub used : Used t r
+  pub some : 0 < countAt counts r
+
+-- n is 0, or such a row
+abbrev pub Counted : Table → List ℕ → ℕ → Type 0
+Counted t counts n = 0 < n → CountedRow t counts n
+
+-- what is counted stays counted
+abbrev pub Kept : List ℕ → List ℕ → Type 0
+Kept before after = (n : ℕ) → 0 < countAt before n → 0 < countAt after n
+
+-- n is counted, and so are the rows that were counted before
+pub record CountsMore (t : Table) (n : ℕ) (before after : List ℕ) : Type 0 where
+  pub counts : Counts t after
+  pub kept : Kept before after
+  pub here : Counted t after n

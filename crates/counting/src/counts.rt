@@ -1,28 +1,21 @@
-// The number of words from each row.
-use chains::ORDER;
-use chains::last_at;
-use chains::order_rows;
-use chains::row_before;
+// The number of words from each row that is reached.
 use letters::LETTERS;
-use letters::LONGEST;
 use rows::next_arc;
 use rows::start;
 use rows::target;
 use walking::ends;
-ghost use Prim.Native.Nat.{suc, _≤_, _<_};
+ghost use Prim.Native.Nat.{_≤_, _<_};
 ghost use mathlib.Core.Path.{_≡_};
-ghost use lib.ListN.{length};
+ghost use lib.ListN.{length, replicate};
 ghost use Rattle.letters.specs.Letters.{letters};
 ghost use Rattle.letters.specs.LetterSet.{flag};
-ghost use Rattle.letters.specs.Names.{longest};
 ghost use Rattle.sets.specs.Cut.{cut};
 ghost use Rattle.model.specs.Lists.{missions};
-ghost use Rattle.rows.specs.Table.{rowCount, mostRows, height, target, ends};
-ghost use Rattle.rows.specs.Words.{names};
-ghost use Rattle.rows.specs.Tidy.{Used, Tidy};
-ghost use Rattle.chains.specs.Orders.{Ordered};
+ghost use Rattle.rows.specs.Table.{rowCount, mostRows, start, target, ends};
+ghost use Rattle.rows.specs.Words.{words, names};
+ghost use Rattle.rows.specs.Tidy.{Used, Named, Tidy};
 ghost use Rattle.counting.specs.Ahead.{aheadBy};
-ghost use Rattle.counting.specs.Counts.{countAt, turn, CountedTo, Counts};
+ghost use Rattle.counting.specs.Counts.{countAt, Counts, Counted, CountsMore};
 
 // "the list has over 60,000 names": a greater number of words is kept as one more than this.
 pub const MOST: u16 = 60000;
@@ -73,57 +66,39 @@ fn cut(n: u32) -> u16
     if n <= MOST as u32 { n as u16 } else { MOST + 1 }
 }
 
-// Counts the row: its targets are lower, and so counted before.
-fn count_row(t: &[u16], r: usize, counts: &mut [u16])
-    requires { ⌜ Used (now t) r × CountedTo (now t) (turn (height (now t) r) r) (now counts) ⌝ }
-    ensures { λ _. ⌜ CountedTo (now (t .entry)) (suc (turn (height (now (t .entry)) r) r)) (now (counts .exit)) ⌝ }
+// How many words there are from n, cut; counts n, and so every row that is reached from it. Each row
+// is counted once: a row in use has a word, so 0 says that it is not counted yet.
+fn count_from(t: &[u16], n: usize, counts: &mut [u16]) -> u16
+    requires { ⌜ Counts (now t) (now counts) × Named (now t) n ⌝ }
+    ensures counted { λ _. ⌜ CountsMore (now (t .entry)) n (now (counts .entry)) (now (counts .exit)) ⌝ }
+    ensures number { λ k. ⌜ k ≡ cut (length (words (now (t .entry)) n)) ⌝ }
 {
-    let n = words_ahead(t, r, LETTERS, counts);
-    counts[r] = cut(n);
-}
-
-// Counts the rows of one height.
-fn count_height(t: &[u16], h: usize, order: &[u16], counts: &mut [u16])
-    requires { ⌜ CountedTo (now t) (turn h mostRows) (now counts) × (h ≤ longest) × Ordered (now t) (now order) ⌝ }
-    ensures { λ _. ⌜ CountedTo (now (t .entry)) (turn (suc h) mostRows) (now (counts .exit)) ⌝ }
-{
-    let mut r = last_at(order, h);
-    while r != 0 {
-        count_row(t, r, counts);
-        r = row_before(order, r);
+    if n == 0 {
+        return 0;
     }
-}
-
-// Counts all rows, height by height.
-fn count_heights(t: &[u16], order: &[u16], counts: &mut [u16])
-    requires { ⌜ Tidy (now t) × (rowCount (now t) ≤ length (now counts)) × Ordered (now t) (now order) ⌝ }
-    ensures { λ _. ⌜ Counts (now (t .entry)) (now (counts .exit)) ⌝ }
-{
-    counts[0] = 0;
-    let mut h = 0;
-    while h <= LONGEST {
-        count_height(t, h, order, counts);
-        h += 1;
+    let known = counts[n];
+    if known != 0 {
+        return known;
     }
+    let mut sum = ends_count(t, n);
+    let mut x = next_arc(t, n, 0);
+    while x < LETTERS {
+        let s = target(t, n, x) as usize;
+        sum += count_from(t, s, counts) as u32;
+        x = next_arc(t, n, x + 1);
+    }
+    let all = cut(sum);
+    counts[n] = all;
+    all
 }
 
-// Counts all rows.
-fn count_words(t: &[u16], counts: &mut [u16])
-    requires { ⌜ Tidy (now t) × (rowCount (now t) ≤ length (now counts)) ⌝ }
-    ensures { λ _. ⌜ Counts (now (t .entry)) (now (counts .exit)) ⌝ }
-{
-    let mut order = [0u16; ORDER];
-    order_rows(t, &mut order);
-    count_heights(t, &order, counts);
-}
-
-// Counts all rows, and says how many names the mission's list has, cut.
+// Counts the rows that are reached from the mission's start, in an array of zeros, and says how many
+// names the mission's list has, cut.
 pub fn count_names(t: &[u16], m: usize, counts: &mut [u16]) -> u16
-    requires { ⌜ Tidy (now t) × (m < missions) × (rowCount (now t) ≤ length (now counts)) ⌝ }
-    ensures counted { λ n. ⌜ Counts (now (t .entry)) (now (counts .exit)) ⌝ }
+    requires { ⌜ Tidy (now t) × (m < missions) × (now counts ≡ replicate mostRows 0) ⌝ }
+    ensures counted { λ n. ⌜ Counts (now (t .entry)) (now (counts .exit)) × Counted (now (t .entry)) (now (counts .exit)) (start (now (t .entry)) m) ⌝ }
     ensures number { λ n. ⌜ n ≡ cut (length (names (now (t .entry)) m)) ⌝ }
 {
-    count_words(t, counts);
     let r = start(t, m) as usize;
-    count_at(counts, r)
+    count_from(t, r, counts)
 }

@@ -5,22 +5,17 @@ use mathlib.Core.Path.{_≡_, refl}
 use mathlib.Core.Bool.{Bool, true, false}
 use native.Mathlib.Omega.{arith}
 use native.Mathlib.Nat.{mul-le-mul-left, le-of-lt}
-use borrow.Author.Tests.{eq-eqb, ne-eqb, eqb-true, eqb-false, ltb-true}
-use lib.Dec.{eqb, ltb}
+use borrow.Author.Tests.{eq-eqb, ne-eqb, eqb-true, eqb-false}
+use lib.Dec.{eqb}
 use Rattle.letters.specs.Letters.{letters}
 use Rattle.rows.specs.Table.{Table, rowCount, mark}
 use Rattle.rows.specs.Tidy.{Used}
-use Rattle.sets.specs.Below.{allBelow, total}
-use Rattle.sets.proofs.Below.{all-below, total-agree}
-use Rattle.index.specs.Buckets.{factor, mix, most, keyOf, rowKey, bucketOf, bucket, buckets}
-
--- every factor is below 2 to the power 32: one test over all of them
-pub factor-small : (x : ℕ) → x < letters → factor x < 4294967296
-unfolding allBelow
-factor-small x h = ltb-true (factor x) 4294967296 (all-below (λ y. ltb (factor y) 4294967296) letters refl x h)
+use Rattle.sets.specs.Below.{total}
+use Rattle.sets.proofs.Below.{total-agree}
+use Rattle.index.specs.Buckets.{radix, factor, mix, most, keyOf, rowKey, bucketOf, bucket, buckets}
 
 -- a number of the table times a factor
-pub product-small : (n f : ℕ) → n < 65536 → f < 4294967296 → n * f < most
+pub product-small : (n f : ℕ) → n < 65536 → f < radix → n * f < most
 product-small n f small low = omega (arith, mul-le-mul-left n (le-of-lt low))
 
 pub same-key : (k : ℕ) (f g : ℕ → ℕ) → ((x : ℕ) → x < letters → f x ≡ g x) → keyOf k f ≡ keyOf k g

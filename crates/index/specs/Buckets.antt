@@ -2,23 +2,23 @@
 -- mixed. Assumes nothing.
 use Prim.Native.Nat.{ℕ, suc, _+_, _*_, _/_, _%_}
 use mathlib.Core.Bool.{cond}
-use mathlib.Core.List.{List, [], _∷_}
 use lib.Dec.{eqb}
-use lib.ListN.{getD}
 use Rattle.letters.specs.Letters.{letters}
 use Rattle.sets.specs.Below.{total}
 use Rattle.rows.specs.Table.{Table, mark, target}
 
--- a factor for the mark and one for each letter: odd numbers below 2 to the power 32, drawn at random once
+-- factors below 2 to the power 32, one for the mark and one for each letter, that have nothing to do with each other
+abbrev pub radix : ℕ
+radix = 4294967296
+
 abbrev pub markFactor : ℕ
 markFactor = 2654435761
 
-abbrev pub factors : List ℕ
-factors =
-    1372175473 ∷ 2158288731 ∷ 4085985277 ∷ 2198261819 ∷ 2779694999 ∷ 3693674385 ∷ 4092891721 ∷ 3797265611 ∷ 3843167363 ∷ 2581407005 ∷ 2669253893 ∷ 2390402793 ∷ 1806527459 ∷ 3364563061 ∷ 2459164303 ∷ 2352832279 ∷ 3618087885 ∷ 3137641081 ∷ 3335353833 ∷ 3299030207 ∷ 2108418345 ∷ 3225631933 ∷ 3320322299 ∷ 2519087847 ∷ 1894488587 ∷ 2637987309 ∷ 1233687313 ∷ 3507963309 ∷ 1931252819 ∷ 3499379095 ∷ 3826659847 ∷ 2942817377 ∷ 2105765495 ∷ 2917953297 ∷ 1349621007 ∷ 1706035757 ∷ 1080240573 ∷ []
+abbrev pub root : ℕ → ℕ
+root x = (x * 2654435761 + 1640531527) % radix
 
 abbrev pub factor : ℕ → ℕ
-factor x = getD factors x 0
+factor x = root x * root x % radix
 
 -- a mark and the targets of the letters below n, each times its factor; no target adds nothing
 unfoldable pub mix : ℕ → (ℕ → ℕ) → ℕ → ℕ

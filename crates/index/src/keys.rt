@@ -13,53 +13,18 @@ const SHARE: u64 = 65536;
 // How many keys have the same bucket.
 const KEYS_EACH: usize = 64;
 
+// 2 to the power 32.
+const RADIX: u64 = 4294967296;
+
 const MARK_FACTOR: u64 = 2654435761;
 
-const FACTORS: [u64; LETTERS] = [
-    1372175473,
-    2158288731,
-    4085985277,
-    2198261819,
-    2779694999,
-    3693674385,
-    4092891721,
-    3797265611,
-    3843167363,
-    2581407005,
-    2669253893,
-    2390402793,
-    1806527459,
-    3364563061,
-    2459164303,
-    2352832279,
-    3618087885,
-    3137641081,
-    3335353833,
-    3299030207,
-    2108418345,
-    3225631933,
-    3320322299,
-    2519087847,
-    1894488587,
-    2637987309,
-    1233687313,
-    3507963309,
-    1931252819,
-    3499379095,
-    3826659847,
-    2942817377,
-    2105765495,
-    2917953297,
-    1349621007,
-    1706035757,
-    1080240573,
-];
-
+// The factor of a letter. A list of them would be laid out anew for each look into it.
 fn factor(x: usize) -> u64
     requires { ⌜ x < letters ⌝ }
     ensures { λ f. ⌜ f ≡ factor x ⌝ }
 {
-    FACTORS[x]
+    let root = (x as u64 * 2654435761 + 1640531527) % RADIX;
+    root * root % RADIX
 }
 
 // What a mark alone is mixed to.

@@ -6,7 +6,6 @@ use native.Mathlib.Omega.{arith}
 use native.Mathlib.Decide.{ℕ-discrete, decLt}
 use mathlib.Core.Path.{_≡_, sym, _∙_}
 use mathlib.Core.Bool.{Bool, true, false, _&&_, and-eq-true-iff}
-use mathlib.Core.Logic.{inl, inr}
 use mathlib.Core.List.{List}
 use lib.Count.{trailingZeros}
 use lib.Dec.{leb}
@@ -18,27 +17,25 @@ use Rattle.letters.proofs.LetterSet.{sum-agree, sum-none, sum-except, except, l
 use Rattle.sets.specs.Below.{total}
 use Rattle.sets.specs.Cut.{most}
 use Rattle.sets.proofs.Below.{total-skip}
-use Rattle.model.specs.Lists.{missions}
 use Rattle.rows.specs.Table.{Table, rowCount, start, target, ends}
 use Rattle.rows.specs.Walk.{hasArc}
 use Rattle.rows.specs.Words.{words, names}
 use Rattle.rows.specs.Tidy.{Used, Tidy}
-use Rattle.rows.proofs.Facts.{no-row, named-cases, target-named}
+use Rattle.rows.proofs.Facts.{no-row}
 use Rattle.rows.proofs.Words.{words-none}
-use Rattle.rows.proofs.Books.{start-named}
 use Rattle.counting.specs.Ahead.{ahead}
-use Rattle.counting.specs.Counts.{countAt, Counts}
-use Rattle.counting.proofs.Ahead.{length-words, target-few, no-arc-words, count-exact}
+use Rattle.counting.specs.Counts.{countAt, Counts, CountedRow, Counted}
+use Rattle.counting.proofs.Ahead.{length-words, target-few, no-arc-words, count-exact, target-counted}
 use Rattle.listing.specs.Steps.{Listable, Leads}
 
 -- the names of a mission are listed from its start
-pub start-listable : {t : Table} {counts : List ℕ} {m r : ℕ} → Counts t counts → m < missions → r ≡ start t m → length (names t m) ≤ most
-    → Listable t counts r
-start-listable {t} {counts} {m} {r} c h e few = rw e (record { counted = c; named = start-named t (c .tidy) m h; few = few })
+pub start-listable : {t : Table} {counts : List ℕ} (m : ℕ) {r : ℕ} → Counts t counts × Counted t counts (start t m) → r ≡ start t m
+    → length (names t m) ≤ most → Listable t counts r
+start-listable m c e few = rw e (record { counted = c .0; row = c .1; few = few })
 
 -- the array has the number of words from a row
 pub listable-exact : {t : Table} {counts : List ℕ} {r : ℕ} → Listable t counts r → countAt counts r ≡ length (words t r)
-listable-exact {t} {counts} {r} l = count-exact t counts (l .counted) r (l .named) (l .few)
+listable-exact {t} {counts} {r} l = count-exact t counts (l .counted) r (l .row) (l .few)
 
 -- the arcs of the row from a letter on
 abbrev pub onward : Table → ℕ → ℕ → ℕ → Bool
@@ -96,9 +93,13 @@ module _ {t : Table} {counts : List ℕ} {r n : ℕ} (l : Listable t counts r) (
   abbrev tidy : Tidy t
   tidy = l .counted .tidy
 
-  -- a row with a word is in use
+  -- a row with a word is in use, and counted
+  row-counted : CountedRow t counts r
+  row-counted =
+      elim (ℕ-discrete r 0) [ yes e ↦ absurd (omega (arith, rw (words-none t r (no-row t r e)) at below)) | no d ↦ l .row (omega arith) ]
+
   pub row-used : Used t r
-  row-used = elim (named-cases (l .named)) [ inl u ↦ u | inr e ↦ absurd (omega (arith, rw (words-none t r (no-row t r e)) at below)) ]
+  row-used = row-counted .used
 
   -- where there is no arc between, no words stand between
   skipped : (from x : ℕ) → from ≤ x → ((y : ℕ) → y < x → onward t r from y ≡ false) → ahead t r x ≡ ahead t r from
@@ -161,7 +162,7 @@ module _ {t : Table} {counts : List ℕ} {r n : ℕ} (l : Listable t counts r) (
     target-listable =
         record {
           counted = l .counted;
-          named = target-named t tidy r x row-used h;
+          row = target-counted t counts (l .counted) r row-counted x h;
           few = omega (arith, target-few t tidy r row-used x h, l .few);
         }
 

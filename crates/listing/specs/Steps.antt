@@ -7,15 +7,14 @@ use Rattle.letters.specs.Letters.{letters}
 use Rattle.sets.specs.Cut.{most}
 use Rattle.rows.specs.Table.{Table, target}
 use Rattle.rows.specs.Words.{words}
-use Rattle.rows.specs.Tidy.{Named}
 use Rattle.counting.specs.Ahead.{ahead}
-use Rattle.counting.specs.Counts.{Counts}
+use Rattle.counting.specs.Counts.{Counts, Counted}
 use Rattle.listing.specs.declared.word.Step.{Step}
 
--- the rows are counted, and from r there are no more words than are counted
+-- r is 0 or a row that is counted, and from r there are no more words than are counted
 pub record Listable (t : Table) (counts : List ℕ) (r : ℕ) : Type 0 where
   pub counted : Counts t counts
-  pub named : Named t r
+  pub row : Counted t counts r
   pub few : length (words t r) ≤ most
 
 -- the word with n words before it begins with the letter, and the rest of it has `left` words before it at the letter's target

@@ -5,7 +5,6 @@ use Prim.Native.Nat.{ℕ, zero, suc, _+_, _≤_, _<_, max}
 use native.Mathlib.Omega.{arith}
 use native.Mathlib.Decide.{ℕ-discrete}
 use mathlib.Core.Path.{_≡_, refl, sym, _∙_}
-use mathlib.Core.Logic.{inl, inr}
 use mathlib.Core.Bool.{Bool, true, false, cond, _||_, false≢true}
 use mathlib.Core.List.{List, []}
 use lib.Dec.{eqb, ltb}
@@ -22,9 +21,9 @@ use Rattle.model.proofs.Combined.{member-combined, plain-combined, combined-eac
 use Rattle.rows.specs.Table.{Table, mostRows, rowCount, mark, target}
 use Rattle.rows.specs.Words.{words}
 use Rattle.rows.specs.Rules.{above}
-use Rattle.rows.specs.Tidy.{Used, Named, Tidy}
+use Rattle.rows.specs.Tidy.{Named, Tidy}
 use Rattle.rows.specs.Growth.{Grown}
-use Rattle.rows.proofs.Facts.{no-row, named-cases, named-inside, target-named, target-lower}
+use Rattle.rows.proofs.Facts.{no-row, named-inside, target-named, target-below}
 use Rattle.rows.proofs.Zeros.{zero-cell}
 use Rattle.rows.proofs.Words.{words-plain, words-short, words-none, empty-word, words-target}
 use Rattle.rows.proofs.Growth.{mark-kept, height-kept, used-kept, named-kept, words-kept}
@@ -214,15 +213,6 @@ module _ {op : ℕ} {t : Table} {p q : ℕ} (rows : Pair t p q) where
               first = rows .first (omega (arith, eqb-false p 0 f));
               second = rows .second (omega (arith, eqb-false q 0 e));
             }
-
--- what a target asks of the height is less than what its row asks
-target-below : (t : Table) → Tidy t → (r x : ℕ) → Used t r → x < letters → above t (target t r x) < above t r
-target-below t tidy r x used h =
-    rw (ne-eqb r 0 (λ e. omega (arith, used .positive)))
-    (elim (named-cases (target-named t tidy r x used h)) [
-      | inl v ↦ rw (ne-eqb (target t r x) 0 (λ e. omega (arith, v .positive))) (omega (arith, target-lower t tidy r x used h v))
-      | inr e ↦ rw e (omega arith)
-    ])
 
 -- the table has grown from t to u: the pairs of the targets are settled for the letters below x
 pub record SoFar (op : ℕ) (t : Table) (p q : ℕ) (u : Table) (seen : Pairs) (ts : List ℕ) (x : ℕ) : Type 0 where

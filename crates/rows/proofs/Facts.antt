@@ -8,9 +8,10 @@ use mathlib.Core.Path.{_≡_}
 use mathlib.Core.Logic.{_⊎_, inl, inr}
 use mathlib.Core.Bool.{true, false, and-eq-true-iff}
 use lib.Dec.{ltb}
-use borrow.Author.Tests.{ltb-true, lt-ltb}
+use borrow.Author.Tests.{ltb-true, lt-ltb, ne-eqb}
 use Rattle.letters.specs.Letters.{letters}
 use Rattle.rows.specs.Table.{Table, rowCount, isRow, mark, height, target, inUse}
+use Rattle.rows.specs.Rules.{above}
 use Rattle.rows.specs.Tidy.{Used, Named, Arc, Tidy}
 
 pub row-inside : (t : Table) (r : ℕ) → isRow t r ≡ true → (0 < r) × (r < rowCount t)
@@ -51,6 +52,15 @@ module _ (t : Table) (tidy : Tidy t) where
 
   pub target-lower : (r x : ℕ) → Used t r → x < letters → Used t (target t r x) → height t (target t r x) < height t r
   target-lower r x u h v = tidy .lower r x (record { used = u; letter = h; there = v .positive })
+
+  -- what a target asks of the height is less than what its row asks
+  pub target-below : (r x : ℕ) → Used t r → x < letters → above t (target t r x) < above t r
+  target-below r x used h =
+      rw (ne-eqb r 0 (λ e. omega (arith, used .positive)))
+      (elim (named-cases (target-named r x used h)) [
+        | inl v ↦ rw (ne-eqb (target t r x) 0 (λ e. omega (arith, v .positive))) (omega (arith, target-lower r x used h v))
+        | inr e ↦ rw e (omega arith)
+      ])
 
   pub by-height : (P : ℕ → Type 0) → ((r : ℕ) → Used t r → ((x : ℕ) → Arc t r x → P (target t r x)) → P r) → (r : ℕ) → Used t r → P r
   by-height P step r u = go (suc (height t r)) r u (omega arith)

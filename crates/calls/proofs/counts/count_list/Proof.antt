@@ -1,5 +1,6 @@
 -- `count_list` meets its promise: on a sound book only refusal 9 is left, and the number of names settles it and answers. Assumes nothing.
 use native.Mathlib.Omega.{arith}
+use mathlib.Core.Path.{refl}
 use borrow.Author.Needs.{needs}
 use Rattle.model.specs.Run.{run}
 use Rattle.model.proofs.Refusals.{mission-under}
@@ -14,8 +15,7 @@ slice-aggregate-count-names c = search needs
 count-names-requires : tie.Need-count-names-requires
 count-names-requires c κs =
     let (s, h) = c .before .before .pre in
-    let tidy = sound-facts _ s .tidy in
-    (tidy, h, tidy .most)
+    (sound-facts _ s .tidy, h, refl)
 
 returns : tie.Need-returns
 unfolding run

@@ -1,12 +1,12 @@
 -- `rank_in_list` meets its promise: on a sound book and for a name only refusal 9 is left. The number of names settles it, and then the counts
 -- of the rows serve to find how many words of the mission's start stand before the name. Assumes nothing.
 use native.Mathlib.Omega.{arith}
+use mathlib.Core.Path.{refl}
 use borrow.Author.Needs.{needs}
 use Rattle.letters.proofs.Words.{name-parts}
 use Rattle.model.specs.Run.{run}
 use Rattle.model.proofs.Refusals.{mission-under}
 use Rattle.rows.proofs.Rules.{sound-facts, sound-length}
-use Rattle.rows.proofs.Books.{start-named}
 use Rattle.calls.proofs.Outcomes.{list-words, names-over, names-under}
 use Rattle.calls.proofs.ranks.rank_in_list.Statement.{statement}
 use Rattle.calls.proofs.ranks.rank_in_list.Tie as tie
@@ -17,8 +17,7 @@ slice-aggregate-count-names c = search needs
 count-names-requires : tie.Need-count-names-requires
 count-names-requires c κs =
     let (s, h, n) = c .before .before .before .pre in
-    let tidy = sound-facts _ s .tidy in
-    (tidy, h, tidy .most)
+    (sound-facts _ s .tidy, h, refl)
 
 returns : tie.Need-returns
 unfolding run
@@ -41,9 +40,8 @@ rank-from-requires : tie.Need-rank-from-requires
 rank-from-requires c κs =
     let first = c .before .before .before .before .before .before .before .before in
     let (s, h, n) = first .pre in
-    let (counts, number) = c .before .before .before .before .count-names .ensures in
-    rw (c .before .start .ensures)
-    (counts, start-named (first .args .t .now) (counts .tidy) (first .args .m) h, omega (arith, number), name-parts _ n .2)
+    let ((counts, counted), number) = c .before .before .before .before .count-names .ensures in
+    rw (c .before .start .ensures) (counts, counted, omega (arith, number), name-parts _ n .2)
 
 returns-2 : tie.Need-returns-2
 unfolding run

@@ -1,7 +1,7 @@
 -- `nth_in_list` meets its promise: on a sound book and for a buffer that is long enough only refusals 9 and 10 are left. The number of names
 -- settles them, and then the counts of the rows serve to write the name. Assumes nothing.
 use Prim.Native.Nat.{_<_}
-use mathlib.Core.Path.{sym}
+use mathlib.Core.Path.{refl, sym}
 use native.Mathlib.Omega.{arith}
 use borrow.Author.Needs.{needs}
 use borrow.Author.Tests.{le-ltb, le-leb, lt-leb}
@@ -23,8 +23,7 @@ slice-aggregate-count-names c = search needs
 count-names-requires : tie.Need-count-names-requires
 count-names-requires c κs =
     let (s, h, long) = c .before .before .before .pre in
-    let tidy = sound-facts _ s .tidy in
-    (tidy, h, tidy .most)
+    (sound-facts _ s .tidy, h, refl)
 
 returns : tie.Need-returns
 unfolding run
@@ -76,9 +75,10 @@ under c =
 write-word-requires : tie.Need-write-word-requires
 write-word-requires c κs =
     let started = c .before .before in
-    let (s, h, long) = started .before .before .before .before .before .before .before .before .pre in
+    let first = started .before .before .before .before .before .before .before .before in
+    let (s, h, long) = first .pre in
     let (counts, number) = started .before .before .before .before .count-names .ensures in
-    (start-listable counts h (started .start .ensures) (omega arith), under started, long)
+    (start-listable (first .args .m) counts (started .start .ensures) (omega arith), under started, long)
 
 cast-t12 : tie.Need-cast-t12
 cast-t12 c =

@@ -1,14 +1,9 @@
--- `count_names` meets its promise: the array has the number of words from the mission's start. Assumes nothing.
-use mathlib.Core.Path.{_∙_}
+-- `count_names` meets its promise: in an array of zeros no row is counted, and counting goes from the mission's start. Assumes nothing.
 use borrow.Author.Needs.{needs}
-use Rattle.rows.specs.Tidy.{Named}
 use Rattle.rows.proofs.Books.{start-named}
-use Rattle.counting.proofs.Ahead.{count-inside}
+use Rattle.counting.proofs.Filling.{zeros-counts}
 use Rattle.counting.proofs.counts.count_names.Statement.{statement}
 use Rattle.counting.proofs.counts.count_names.Tie as tie
-
-count-words-requires : tie.Need-count-words-requires
-count-words-requires c κs = search needs
 
 start-requires : tie.Need-start-requires
 start-requires c κs = search needs
@@ -16,24 +11,20 @@ start-requires c κs = search needs
 cast-r : tie.Need-cast-r
 cast-r c = search needs
 
--- the start is 0 or a row in use
-named : (c : tie.After-start) → Named (c .before .before .before .before .before .before .before .args .t .now) (c .start .result)
-named c =
-    let start = c .before .before .before .before .before .before .before in
-    let (tidy, mission, long) = start .pre in
-    rw (c .start .ensures) (start-named (start .args .t .now) tidy (start .args .m) mission)
-
-count-at-requires : tie.Need-count-at-requires
-count-at-requires c κs = count-inside _ _ (c .before .before .before .before .count-words .ensures) _ (named (c .before))
+count-from-requires : tie.Need-count-from-requires
+count-from-requires c κs =
+    let start = c .before .before .before .before in
+    let (tidy, mission, zeros) = start .pre in
+    rw (zeros, c .before .start .ensures) (zeros-counts tidy (tidy .most), start-named (start .args .t .now) tidy (start .args .m) mission)
 
 same-length : tie.Need-same-length
 same-length c = search needs
 
 returns : tie.Need-returns
 returns c =
-    let started = c .before .before in
-    let counts = started .before .before .before .count-words .ensures in
-    (counts, c .count-at .ensures ∙ rw (← started .start .ensures) (counts .counted _ (named started)))
+    let called = c .before .before in
+    let (more, number) = rw (called .before .before .start .ensures) at (called .count-from .ensures) in
+    ((more .counts, more .here), number)
 
 pub count-names-spec : {M : Type 1} → statement M
-count-names-spec = tie.close (tie.spec count-words-requires start-requires cast-r count-at-requires same-length returns)
+count-names-spec = tie.close (tie.spec start-requires cast-r count-from-requires same-length returns)

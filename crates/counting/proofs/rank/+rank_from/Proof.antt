@@ -17,12 +17,11 @@ use Rattle.sets.specs.Sets.{keep}
 use Rattle.model.specs.Lists.{rankOf}
 use Rattle.rows.specs.Table.{Table, target}
 use Rattle.rows.specs.Words.{words}
-use Rattle.rows.specs.Tidy.{Used}
-use Rattle.rows.proofs.Facts.{no-row, target-named}
+use Rattle.rows.proofs.Facts.{no-row}
 use Rattle.rows.proofs.Words.{words-none}
 use Rattle.counting.specs.Ahead.{aheadBy}
-use Rattle.counting.specs.Counts.{countAt, Counts}
-use Rattle.counting.proofs.Ahead.{rank-empty, rank-few, rank-words, target-few, count-none, ahead-counts}
+use Rattle.counting.specs.Counts.{countAt, Counts, CountedRow}
+use Rattle.counting.proofs.Ahead.{rank-empty, rank-few, rank-words, target-few, target-counted, ahead-counts}
 use Rattle.letters.proofs.letter_of.Reads as letter-of
 use Rattle.rows.proofs.target.Reads as target-of
 use Rattle.counting.proofs.counts.words_ahead.Reads as words-ahead
@@ -33,11 +32,11 @@ use Rattle.counting.proofs.rank.+rank_from.{statement}
 use Rattle.counting.proofs.rank.+rank_from.Tie.{close}
 
 -- the array's numbers are exact, so they give the rank
-rank-by-counts : (t : Table) (counts : List ℕ) (c : Counts t counts) (n : ℕ) → Used t n → length (words t n) ≤ most
+rank-by-counts : (t : Table) (counts : List ℕ) (c : Counts t counts) (n : ℕ) → CountedRow t counts n → length (words t n) ≤ most
     → (x : ℕ) → x < letters → (w : Word)
     → aheadBy (λ s. countAt counts s) t n x + rankOf w (words t (target t n x)) ≡ rankOf (x ∷ w) (words t n)
-rank-by-counts t counts c n u few x h w =
-    rw (ahead-counts t counts c n u few x (omega arith)) (sym (rank-words t (c .tidy) n u x h w))
+rank-by-counts t counts c n row few x h w =
+    rw (ahead-counts t counts c n row few x (omega arith)) (sym (rank-words t (c .tidy) n (row .used) x h w))
 
 abbrev μ : Measures 3 kinds.ps ℕ
 μ κs a = length (a .1 .1 .0 .now)
@@ -71,27 +70,27 @@ module _ (bound : ℕ) where
   letter-of-requires : lts.Need-letter-of-requires claims at rank-from.Post
   letter-of-requires c κs = search needs
 
-  -- n is a row, and the name begins with a letter
+  -- n is a row that is counted, and the name begins with a letter
   begins : (c : lts.After-letter-of claims at rank-from.Post) →
       let args = c .before .before .before .before .before .before .before .args in
-      Used (args .t .now) (args .n) × (c .letter-of .result < letters) × Spelled (wordOf (rest (args .name .now)))
+      CountedRow (args .t .now) (args .counts .now) (args .n) × (c .letter-of .result < letters) × Spelled (wordOf (rest (args .name .now)))
   begins c =
       let start = c .before .before .before .before .before .before .before in
-      let (counted, named, few, spelled) = start .pre .1 in
+      let (counts, counted, few, spelled) = start .pre .1 in
       let (letter, left) = spelled-rest (start .args .name .now) (omega arith) spelled in
-      (named (omega arith), rw (c .letter-of .ensures) letter, left)
+      (counted (omega arith), rw (c .letter-of .ensures) letter, left)
 
   words-ahead-requires : lts.Need-words-ahead-requires claims at rank-from.Post
   words-ahead-requires c κs =
       let start = c .before .before .before .before .before .before .before in
-      let counted = start .pre .1 .0 in
-      let (used, letter, left) = begins c in
-      (counted .tidy, used, omega arith, counted .long, count-none (start .args .t .now) (start .args .counts .now) counted)
+      let counts = start .pre .1 .0 in
+      let (row, letter, left) = begins c in
+      (counts .tidy, row .used, omega arith, counts .long, counts .none)
 
   target-requires : lts.Need-target-requires claims at rank-from.Post
   target-requires c κs =
-      let (used, letter, left) = begins (c .before) in
-      (used .inside, letter)
+      let (row, letter, left) = begins (c .before) in
+      (row .used .inside, letter)
 
   cast-next : lts.Need-cast-next claims at rank-from.Post
   cast-next c = search needs
@@ -108,14 +107,14 @@ module _ (bound : ℕ) where
   rank-from-requires : lts.Need-rank-from-requires claims at rank-from.Post
   rank-from-requires c κs =
       let start = c .before .before .before .before .before .before .before .before .before .before in
-      let (counted, named, few, spelled) = start .pre .1 in
-      let (used, letter, left) = begins (c .before .before .before) in
+      let (counts, counted, few, spelled) = start .pre .1 in
+      let (row, letter, left) = begins (c .before .before .before) in
       let t = start .args .t .now in
       let name = start .args .name .now in
       let less : length (rest name) < bound = omega (arith, rest-length name (omega arith), start .pre .0) in
-      let fewer = target-few t (counted .tidy) (start .args .n) used _ letter in
+      let fewer = target-few t (counts .tidy) (start .args .n) (row .used) _ letter in
       rw (c .before .target .ensures)
-      (less, (counted, target-named t (counted .tidy) (start .args .n) _ used letter, omega arith, left))
+      (less, (counts, target-counted t (start .args .counts .now) counts (start .args .n) row _ letter, omega arith, left))
 
   -- the sum is the rank, and so no more than the words of the row
   rank-sum : (c : lts.After-rank-from claims at rank-from.Post) →
@@ -123,8 +122,8 @@ module _ (bound : ℕ) where
       c .before .before .before .words-ahead .result + c .rank-from .result ≡ rankOf (wordOf (args .name .now)) (words (args .t .now) (args .n))
   rank-sum c =
       let start = c .before .before .before .before .before .before .before .before .before .before .before in
-      let (counted, named, few, spelled) = start .pre .1 in
-      let (used, letter, left) = begins (c .before .before .before .before) in
+      let (counts, counted, few, spelled) = start .pre .1 in
+      let (row, letter, left) = begins (c .before .before .before .before) in
       let called = c .before .before .before in
       rw (
         called .words-ahead .ensures,
@@ -133,12 +132,12 @@ module _ (bound : ℕ) where
         word-rest (start .args .name .now) (omega arith),
         ← (called .before .letter-of .ensures),
       )
-      (rank-by-counts (start .args .t .now) (start .args .counts .now) counted (start .args .n) used few _ letter _)
+      (rank-by-counts (start .args .t .now) (start .args .counts .now) counts (start .args .n) row few _ letter _)
 
   add-result : lts.Need-add-result claims at rank-from.Post
   add-result c =
       let start = c .before .before .before .before .before .before .before .before .before .before .before in
-      let (counted, named, few, spelled) = start .pre .1 in
+      let (counts, counted, few, spelled) = start .pre .1 in
       omega (arith, rank-sum c, rank-few (wordOf (start .args .name .now)) (words (start .args .t .now) (start .args .n)))
 
   returns-3 : lts.Need-returns-3 claims at rank-from.Post

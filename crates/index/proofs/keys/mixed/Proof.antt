@@ -4,14 +4,14 @@ use mathlib.Core.Path.{ap}
 use native.Mathlib.Omega.{arith}
 use borrow.Author.Needs.{needs}
 use Rattle.index.specs.Buckets.{factor, most}
-use Rattle.index.proofs.Buckets.{factor-small, product-small}
+use Rattle.index.proofs.Buckets.{product-small}
 use Rattle.index.proofs.keys.mixed.Statement.{statement}
 use Rattle.index.proofs.keys.mixed.Tie as tie
 
 small : (c : tie.After-factor) → c .before .args .n * c .factor .result < most
 small c =
     let args = c .before .args in
-    rw (c .factor .ensures) (product-small (args .n) (factor (args .x)) (search needs) (factor-small (args .x) (omega arith)))
+    rw (c .factor .ensures) (product-small (args .n) (factor (args .x)) (search needs) (omega arith))
 
 factor-requires : tie.Need-factor-requires
 factor-requires c κs = search needs

@@ -38,8 +38,8 @@ slice-aggregate-write-lines c = search needs
 write-lines-requires : tie.Need-write-lines-requires
 write-lines-requires c κs =
     let counted = c .before .before .before in
-    let (tidy, mission) = counted .before .before .before .before .before .before .pre in
-    start-listable (counted .before .before .count-names .ensures .0) mission (c .before .before .start .ensures) (few counted)
+    let m = counted .before .before .before .before .before .before .args .m in
+    start-listable m (counted .before .before .count-names .ensures .0) (c .before .before .start .ensures) (few counted)
 
 same-length : tie.Need-same-length
 same-length c = search needs

@@ -25,7 +25,7 @@ abbrev μ-loop : tie.MeasureT-loop
 μ-loop t r n counts out₀ end names₀ bytes₀ out names bytes = end - (n + names)
 
 count-at-requires : tie.Need-count-at-requires Inv-loop μ-loop
-count-at-requires c κs = let listable = c .before .before .before .pre in count-inside _ _ (listable .counted) _ (listable .named)
+count-at-requires c κs = let listable = c .before .before .before .pre in count-inside _ _ (listable .counted) _ (listable .row)
 
 cast-end : tie.Need-cast-end Inv-loop μ-loop
 cast-end c = search needs
