@@ -429,7 +429,9 @@ template <class Contestant> Column column_of(const Contestant &full, const Jobs 
     read("nth", [](auto &book, auto &job) { return book.nth(job.mission, job.place) == job.name; });
     if constexpr (is_book<Contestant>) {
         change("empty", nothing, [](auto &book, auto &) { return book.empty(); });
-        read("check", [](auto &book, auto &) { return book.check(); });
+        const auto check = [](auto &book, auto &) { return book.check(); };
+        read("check", check);
+        change("check of a copy", nothing, check); // for the ratios of calls that change each its own copy
         read("used", [](auto &book, auto &) { return book.used(); });
         read("sum", [](auto &book, auto &) { return book.sum(); });
     }
@@ -815,7 +817,8 @@ void print_brief(const std::vector<Contest> &contests, const std::vector<std::ve
     if (states.size() == 2) std::cout << "figure\tbefore\tnow\tbefore / now\n";
     print_ratio("check", large, "sum", large);
     print_ratio("check", large, "check", middle);
-    for (const char *call : {"add", "remove", "count", "load of 100 names"}) print_ratio(call, large, "check", large);
+    print_ratio("count", large, "check", large);
+    for (const char *call : {"add", "remove", "load of 100 names"}) print_ratio(call, large, "check of a copy", large);
     print_slow_times(slow);
     for (const std::string call : calls)
         if (small.has(call)) print_time(call, small);
