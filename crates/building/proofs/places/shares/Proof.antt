@@ -1,10 +1,10 @@
 -- `shares` meets its promise. The loop's invariant: the letters below `i` agree. The measure is the letters that are left. Assumes nothing.
 use Prim.Native.Nat.{_+_, _-_}
-use mathlib.Core.Path.{_≡_, sym}
+use mathlib.Core.Path.{_≡_, sym, _∙_}
 use mathlib.Core.Bool.{true, and-false}
 use native.Mathlib.Omega.{arith}
 use borrow.Author.Needs.{needs}
-use borrow.Author.Tests.{eq-eqb, ne-eqb, lt-ltb, le-ltb}
+use borrow.Author.Tests.{lt-ltb, le-ltb, not-true, not-false}
 use lib.Dec.{eqb}
 use lib.ListN.{length, getD}
 use Rattle.letters.specs.Letters.{letter}
@@ -32,30 +32,28 @@ loop-holds : tie.Need-loop-holds Inv-loop μ-loop
 unfolding allBelow
 loop-holds c = search needs
 
-add-letter-of : tie.Need-add-letter-of Inv-loop μ-loop
-add-letter-of c = search needs
+add-same-letter : tie.Need-add-same-letter Inv-loop μ-loop
+add-same-letter c = search needs
 
-shared-slice-read-letter-of : tie.Need-shared-slice-read-letter-of Inv-loop μ-loop
-shared-slice-read-letter-of c = search needs
+shared-slice-read-same-letter : tie.Need-shared-slice-read-same-letter Inv-loop μ-loop
+shared-slice-read-same-letter c = search needs
 
-letter-of-requires : tie.Need-letter-of-requires Inv-loop μ-loop
-letter-of-requires c κs = search needs
+add-same-letter-2 : tie.Need-add-same-letter-2 Inv-loop μ-loop
+add-same-letter-2 c = search needs
 
-add-letter-of-2 : tie.Need-add-letter-of-2 Inv-loop μ-loop
-add-letter-of-2 c = search needs
+shared-slice-read-same-letter-2 : tie.Need-shared-slice-read-same-letter-2 Inv-loop μ-loop
+shared-slice-read-same-letter-2 c = search needs
 
-shared-slice-read-letter-of-2 : tie.Need-shared-slice-read-letter-of-2 Inv-loop μ-loop
-shared-slice-read-letter-of-2 c = search needs
-
-letter-of-requires-2 : tie.Need-letter-of-requires-2 Inv-loop μ-loop
-letter-of-requires-2 c κs = search needs
+same-letter-requires : tie.Need-same-letter-requires Inv-loop μ-loop
+same-letter-requires c κs = search needs
 
 returns-2 : tie.Need-returns-2 Inv-loop μ-loop
 returns-2 c =
-    let l = c .before .before .before .before .before .before .loop in
-    let args = c .before .before .before .before .before .before .before .before .before .args in
-    let differ = ne-eqb (letter (getD (args .list .now) (args .at + l .i) 0)) (letter (getD (args .list .now) (args .place + l .i) 0)) (λ e. omega arith) in
-    rw (not-all-below _ (args .depth) (l .i) (omega arith) differ, and-false)
+    let called = c .before in
+    let at-loop = called .before .before .before .before in
+    let args = at-loop .before .before .before .args in
+    let differ = sym (called .same-letter .ensures) ∙ not-true (called .same-letter .result) (c .if2 .taken) in
+    rw (not-all-below _ (args .depth) (at-loop .loop .i) (omega arith) differ, and-false)
 
 add-i : tie.Need-add-i Inv-loop μ-loop
 add-i c = search needs
@@ -65,10 +63,9 @@ loop-less c = search needs
 
 loop-again : tie.Need-loop-again Inv-loop μ-loop
 loop-again c =
-    let l = c .before .before .before .before .before .before .loop in
-    let args = c .before .before .before .before .before .before .before .before .before .args in
-    let same = eq-eqb (letter (getD (args .list .now) (args .at + l .i) 0)) (letter (getD (args .list .now) (args .place + l .i) 0)) (omega arith) in
-    all-more _ (l .i) (l .inv) same
+    let called = c .before in
+    let l = called .before .before .before .before .loop in
+    all-more _ (l .i) (l .inv) (sym (called .same-letter .ensures) ∙ not-false (called .same-letter .result) (c .if2 .left))
 
 returns-3 : tie.Need-returns-3 Inv-loop μ-loop
 returns-3 c =
@@ -85,12 +82,11 @@ shares-spec =
     add-if1
     returns
     loop-holds
-    add-letter-of
-    shared-slice-read-letter-of
-    letter-of-requires
-    add-letter-of-2
-    shared-slice-read-letter-of-2
-    letter-of-requires-2
+    add-same-letter
+    shared-slice-read-same-letter
+    add-same-letter-2
+    shared-slice-read-same-letter-2
+    same-letter-requires
     returns-2
     add-i
     loop-less
