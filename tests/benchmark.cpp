@@ -615,13 +615,17 @@ void print_checks(const std::vector<Contest> &contests) {
 ## One call, in checks of the same book
 
 Every call but empty, ask and next first checks the whole book, since it must refuse a table that is not
-sound: so none of them can take much less than 1 here. The last line is check itself, in sums of the table.
+sound: so none of them can take much less than 1 here. A call that changes the book is compared with a check of
+such a copy. The last line is check itself, in sums of the table.
 )";
+    static const std::set<std::string> reading = {"count", "rank", "nth", "used"};
     static const std::set<std::string> others = {"empty", "check", "ask", "next"};
     print_head(cells_of(facts[0], contests, fact(0)));
     for (const std::string call : calls)
-        if (others.count(call) == 0)
-            print_books(call + " / check", contests, [&](const Contest &book) { return cell(book, call, "check"); });
+        if (others.count(call) == 0) {
+            const std::string over = reading.count(call) == 1 ? "check" : "check of a copy";
+            print_books(call + " / check", contests, [&](const Contest &book) { return cell(book, call, over); });
+        }
     print_books("**check / sum**", contests, [](const Contest &book) { return cell(book, "check", "sum"); });
 }
 
