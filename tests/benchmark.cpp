@@ -615,8 +615,8 @@ void print_checks(const std::vector<Contest> &contests) {
 ## One call, in checks of the same book
 
 Every call but empty, ask and next first checks the whole book, since it must refuse a table that is not
-sound: so none of them can take much less than 1 here. A call that changes the book is compared with a check of
-such a copy. The last line is check itself, in sums of the table.
+sound: so none of them can take much less than 1 here. A call that changes the book is compared with a check
+of such a copy. The last line is check itself, in sums of the table.
 )";
     static const std::set<std::string> reading = {"count", "rank", "nth", "used"};
     static const std::set<std::string> others = {"empty", "check", "ask", "next"};
