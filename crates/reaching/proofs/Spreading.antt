@@ -10,7 +10,6 @@ use mathlib.Core.Logic.{_⊎_, inl, inr}
 use mathlib.Core.Bool.{Bool, true, false, _&&_, _||_, or-true, or-false, false≢true, and-eq-true-iff}
 use mathlib.Core.List.{List}
 use borrow.Author.Tests.{eqb-true, eq-eqb}
-use lib.ListN.{getD}
 use Rattle.letters.specs.Each.{Each}
 use Rattle.letters.specs.Letters.{letters}
 use Rattle.letters.specs.Names.{longest}
@@ -29,9 +28,9 @@ use Rattle.rows.proofs.Books.{start-in, start-named, starts-named}
 use Rattle.rows.proofs.Skipping.{lower-or-not}
 use Rattle.minimal.proofs.Counting.{in-those, those-in}
 use Rattle.chains.specs.Chains.{Latest}
-use Rattle.chains.specs.Orders.{level, levels, Ordered}
+use Rattle.chains.specs.Orders.{level}
 use Rattle.chains.proofs.Chains.{latest-here}
-use Rattle.chains.proofs.Levels.{used-level, level-used}
+use Rattle.chains.proofs.Levels.{used-level}
 use Rattle.rules.specs.Pointed.{Pointed}
 use Rattle.reaching.specs.Marks.{Marks, Roots, SpreadTo, Spreads, marked, left, rootsOf}
 use Rattle.reaching.proofs.Marking.{marked-test, marks-same, marks-more, roots-more, roots-none}
@@ -116,14 +115,6 @@ module _ {t : Table} (tidy : Tidy t) {r : ℕ} {p : List ℕ} (u : Used t r) (ro
       where
         hit : (s x : ℕ) → x < letters → s ≡ r → pointsAt t r (target t s x) ≡ true
         hit s x letter same = below-some _ letters x letter (eq-eqb (target t r x) (target t s x) (rw same))
-
--- what the order tells: the latest row of a height is in use and of this height, and the row before it is the latest before it
-pub latest-row : {t : Table} {h n r : ℕ} → Latest (λ s. level t s) (suc h) n r → 0 < r → Used t r × (height t r ≡ h)
-latest-row {t} {h} {r} latest some = level-used t r h (latest .there some)
-
-pub before-latest : {t : Table} {order : List ℕ} {h r : ℕ} → Ordered t order → Used t r → height t r ≡ h
-    → Latest (λ s. level t s) (suc h) r (getD order (levels + r) 0)
-before-latest {r} ordered u e = rw (used-level u ∙ ap suc e) at (ordered .links r (u .positive) (u .inside))
 
 -- the rows of one height, from the last on: none stands before the last one or between two that follow each other, and number 0 is no row
 module _ {t : Table} (tidy : Tidy t) (h : ℕ) {p : List ℕ} (roots : Roots t p) where

@@ -9,9 +9,9 @@ use Rattle.rows.specs.Table.{mostRows, height}
 use Rattle.rows.specs.Tidy.{Used}
 use Rattle.chains.specs.Chains.{Latest}
 use Rattle.chains.specs.Orders.{level, levels}
-use Rattle.chains.proofs.Levels.{last-latest}
+use Rattle.chains.proofs.Levels.{last-latest, latest-row, before-latest}
 use Rattle.reaching.specs.Marks.{Spreads, left}
-use Rattle.reaching.proofs.Spreading.{latest-row, before-latest, spreads-both, height-begun, height-further, height-done}
+use Rattle.reaching.proofs.Spreading.{spreads-both, height-begun, height-further, height-done}
 use Rattle.reaching.proofs.spreads.spread_height.Statement.{statement}
 use Rattle.reaching.proofs.spreads.spread_height.Tie as tie
 

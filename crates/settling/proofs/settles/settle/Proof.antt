@@ -12,11 +12,9 @@ use Rattle.settling.proofs.Settling.{start-back, start-tidy, start-says
 use Rattle.settling.proofs.settles.settle.Statement.{statement}
 use Rattle.settling.proofs.settles.settle.Tie as tie
 
-swept-then : {v w after : Table} (done : Bool) → after ≡ cond done (swept v) v → done ≡ true → v ≡ w → after ≡ swept w
-swept-then done e h same = e ∙ rw (h, same)
-
-kept-then : {v w after : Table} (done : Bool) → after ≡ cond done (swept v) v → done ≡ false → v ≡ w → after ≡ w
-kept-then done e h same = e ∙ rw (h, same)
+-- what `sweep_if_fits` leaves, where its answer and its table are known
+left-by : {v w after : Table} {done : Bool} (told : Bool) → after ≡ cond done (swept v) v → done ≡ told → v ≡ w → after ≡ cond told (swept w) w
+left-by told e h same = e ∙ rw (h, same)
 
 module _ (c : tie.After-sweep-if-fits) where
   abbrev entry : tie.Start
@@ -44,7 +42,7 @@ tried c = c .before .before .before .before .before
 back : (c : tie.After-set-start2) → c .set-start2 .last .0 ≡ t (tried c)
 back c =
     let called = tried c in
-    let same = kept-then _ (called .sweep-if-fits .ensures .table) (c .before .before .if1 .left) (new called) in
+    let same = left-by false (called .sweep-if-fits .ensures .table) (c .before .before .if1 .left) (new called) in
     let old = called .before .before .before .before .before .before .start .ensures in
     c .set-start2 .ensures ∙ start-back (t called) _ (m called) (r called) _ same old
 
@@ -67,7 +65,7 @@ returns c =
     let called = c .before .before .before in
     record {
       says = sym (c .if1 .taken) ∙ says called;
-      table = swept-then _ (called .sweep-if-fits .ensures .table) (c .if1 .taken) (new called);
+      table = left-by true (called .sweep-if-fits .ensures .table) (c .if1 .taken) (new called);
     }
 
 set-start-requires-2 : tie.Need-set-start-requires-2
