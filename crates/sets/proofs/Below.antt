@@ -115,15 +115,6 @@ module _ (given : ℕ → ℕ) where
   greatest-least zero top f = omega arith
   greatest-least (suc n) top f = omega (arith, greatest-least n top (λ i h. f i (omega arith)), f n (omega arith))
 
-  pub greatest-some : (n : ℕ) → 0 < greatest n given → (i : ℕ) × (i < n) × (0 < given i)
-  unfolding greatest
-  greatest-some zero h = absurd (omega arith)
-  greatest-some (suc n) h =
-      elim (ℕ-discrete (given n) 0) [
-        | yes e ↦ let (i, below, some) = greatest-some n (omega arith) in (i, omega arith, some)
-        | no e ↦ (n, omega arith, omega arith)
-      ]
-
 -- what agrees below n
 pub below-agree : (n : ℕ) (f g : ℕ → Bool) → ((i : ℕ) → i < n → f i ≡ g i) → someBelow n f ≡ someBelow n g
 unfolding someBelow

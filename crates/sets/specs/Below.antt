@@ -13,11 +13,6 @@ unfoldable pub someBelow : ℕ → (ℕ → Bool) → Bool
 someBelow zero test = false
 someBelow (suc n) test = someBelow n test || test n
 
--- the first that passes the test; 0 where none does
-unfoldable pub firstBelow : ℕ → (ℕ → Bool) → ℕ
-firstBelow zero test = 0
-firstBelow (suc n) test = cond (someBelow n test) (firstBelow n test) (cond (test n) n 0)
-
 -- the greatest of the numbers that they give; 0 where there is none
 unfoldable pub greatest : ℕ → (ℕ → ℕ) → ℕ
 greatest zero given = 0
