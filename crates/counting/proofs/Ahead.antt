@@ -25,7 +25,7 @@ use Rattle.rows.specs.Table.{Table, target, ends}
 use Rattle.rows.specs.Walk.{hasArc}
 use Rattle.rows.specs.Words.{behind, words}
 use Rattle.rows.specs.Tidy.{Used, Arc, Tidy}
-use Rattle.rows.specs.Skips.{Arcless}
+use Rattle.rows.specs.Skips.{NextArc}
 use Rattle.rows.proofs.Facts.{no-row, used-row, named-inside}
 use Rattle.rows.proofs.Words.{words-row, words-none}
 use Rattle.counting.specs.Ahead.{aheadBy, ahead}
@@ -86,11 +86,11 @@ nth-behind x (w ∷ l) (suc n) h = nth-behind x l n (omega arith)
 
 module _ (given : ℕ → ℕ) (none : given 0 ≡ 0) {t : Table} {r : ℕ} where
   -- as far as letter x, the letters without a target add nothing
-  pub ahead-skip : {y e : ℕ} → Arcless t r y e → (x : ℕ) → y ≤ x → aheadBy given t r (min e x) ≡ aheadBy given t r y
+  pub ahead-skip : {y e : ℕ} → NextArc t r y e → (x : ℕ) → y ≤ x → aheadBy given t r (min e x) ≡ aheadBy given t r y
   ahead-skip {y} {e} a x h =
       rw (total-skip (λ z. given (target t r z)) y (min e x) (omega arith) (λ z low below. rw (a .none z low (omega arith)) none))
 
-  pub ahead-more : {y e : ℕ} → Arcless t r (suc y) e → (x : ℕ) → y < x
+  pub ahead-more : {y e : ℕ} → NextArc t r (suc y) e → (x : ℕ) → y < x
       → aheadBy given t r (min e x) ≡ aheadBy given t r (min y x) + given (target t r y)
   unfolding total
   ahead-more {y} a x h = let low : min y x ≡ y = omega arith in ahead-skip a x h ∙ rw low (omega arith)

@@ -19,7 +19,7 @@ use Rattle.sets.proofs.Cut.{cut-total}
 use Rattle.rows.specs.Table.{Table, rowCount, target, ends}
 use Rattle.rows.specs.Words.{words}
 use Rattle.rows.specs.Tidy.{Used, Arc, Tidy}
-use Rattle.rows.specs.Skips.{Arcless}
+use Rattle.rows.specs.Skips.{NextArc}
 use Rattle.rows.proofs.Facts.{no-row}
 use Rattle.rows.proofs.Words.{words-none, has-word}
 use Rattle.rows.proofs.Zeros.{zero-cell}
@@ -67,7 +67,7 @@ pub record SoFar (t : Table) (r : ℕ) (before after : List ℕ) (sum x : ℕ) :
 
 module _ {t : Table} {r : ℕ} where
   -- no letter before the first target
-  pub none-yet : {counts : List ℕ} {sum e : ℕ} → Counts t counts → sum ≡ flag (ends t r) → Arcless t r 0 e → SoFar t r counts counts sum e
+  pub none-yet : {counts : List ℕ} {sum e : ℕ} → Counts t counts → sum ≡ flag (ends t r) → NextArc t r 0 e → SoFar t r counts counts sum e
   unfolding total
   none-yet c start skip =
       record {
@@ -80,7 +80,7 @@ module _ {t : Table} {r : ℕ} where
 
   -- one target more, and the letters without a target behind it
   pub one-more : {before between after : List ℕ} {sum k x e : ℕ} → SoFar t r before between sum x → x < letters
-      → CountsMore t (target t r x) between after → k ≡ number t (target t r x) → Arcless t r (suc x) e → SoFar t r before after (sum + k) e
+      → CountsMore t (target t r x) between after → k ≡ number t (target t r x) → NextArc t r (suc x) e → SoFar t r before after (sum + k) e
   one-more {after} {x} {e} s letter m same skip =
       record {
         counts = m .counts;

@@ -18,10 +18,10 @@ use Rattle.sets.specs.Below.{someBelow}
 use Rattle.sets.proofs.Membership.{either}
 use Rattle.rows.specs.Table.{Table, rowCount, isRow, target}
 use Rattle.rows.specs.Tidy.{Used}
-use Rattle.rows.specs.Skips.{Arcless}
+use Rattle.rows.specs.Skips.{NextArc}
 use Rattle.rows.proofs.Zeros.{zero-cell}
 use Rattle.rows.proofs.Facts.{row-inside, inside-row}
-use Rattle.rows.proofs.Skipping.{skips}
+use Rattle.rows.proofs.Skipping.{past}
 use Rattle.rules.specs.Pointed.{Pointed}
 use Rattle.rules.proofs.Writes.{points-nowhere, points-at-one, points-at-both}
 use Rattle.reaching.specs.Marks.{Marks, Roots, marked}
@@ -48,10 +48,10 @@ module _ (given : ℕ → ℕ) where
       points-at-both before (points-nowhere (λ s. refl)) (λ s some. rw (zero, ne-eqb 0 s (λ e. omega arith)))
 
 -- letters without a target give none
-pub targets-past : {t : Table} {r x e : ℕ} {p q : List ℕ} → Arcless t r x e
+pub targets-past : {t : Table} {r x e : ℕ} {p q : List ℕ} → NextArc t r x e
     → Pointed (λ s. givenBelow (λ y. target t r y) x s) p q → Pointed (λ s. givenBelow (λ y. target t r y) e s) p q
-targets-past {t} {r} {x} {e} {p} {q} none =
-    skips t r (λ n. Pointed (λ s. givenBelow (λ y. target t r y) n s) p q) (λ n. given-zero (λ y. target t r y) n) x e none
+targets-past {t} {r} {x} {e} {p} {q} next =
+    past (λ y. target t r y) (λ n. Pointed (λ s. givenBelow (λ y. target t r y) n s) p q) (given-zero (λ y. target t r y)) x e (next .from) (next .none)
 
 -- a number that is 0 or 1 says whether it is 1
 flag-one : (n : ℕ) (b : Bool) → n ≡ flag b → eqb n 1 ≡ b

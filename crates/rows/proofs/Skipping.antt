@@ -1,4 +1,4 @@
--- What eight zeros say of the numbers, how zeros add up, and how a loop goes past letters without a target. Assumes nothing.
+-- What eight zeros say of the numbers, how zeros add up, and what is kept past them. Assumes nothing.
 use Prim.Native.Nat.{ℕ, zero, suc, _+_, _-_, _*_, _≤_, _<_}
 use mathlib.Core.Path.{_≡_, refl, sym}
 use mathlib.Core.Bool.{Bool, true, false, _&&_, and-eq-true-iff}
@@ -15,7 +15,7 @@ use Rattle.letters.specs.Letters.{letters}
 use Rattle.sets.proofs.Below.{all-below}
 use Rattle.sets.proofs.Membership.{fails}
 use Rattle.rows.specs.Table.{Table, width, target, rowTargets}
-use Rattle.rows.specs.Skips.{eightZeros, Zeros, Skipped, Arcless}
+use Rattle.rows.specs.Skips.{eightZeros, Zeros, Skipped, NextArc}
 
 -- the bits of both are none exactly if neither has any
 pub or-none : (a b : ℕ) → eqb (bitOr a b) 0 ≡ (eqb a 0 && eqb b 0)
@@ -63,37 +63,28 @@ module _ {s : List ℕ} where
   pub skipped-both : {a b end e : ℕ} → Zeros s a b → Skipped s b end e → Skipped s a end e
   skipped-both one two = record { before = zeros-both one (two .before); to = two .to; stops = two .stops }
 
--- what a number 0 keeps is kept past all of them
-pub past : (s : List ℕ) (P : ℕ → Type 0) → ((i : ℕ) → getD s i 0 ≡ 0 → P i → P (suc i)) → (a e : ℕ) → Zeros s a e → P a → P e
-past s P step a zero z p = let d : a ≡ 0 = omega (arith, z .from) in rw d at p
-past s P step a (suc e) z p =
+-- what a 0 keeps is kept past all of them
+pub past : (given : ℕ → ℕ) (P : ℕ → Type 0) → ((i : ℕ) → given i ≡ 0 → P i → P (suc i)) → (a e : ℕ) → a ≤ e
+    → ((i : ℕ) → a ≤ i → i < e → given i ≡ 0) → P a → P e
+past given P step a zero low none p = let d : a ≡ 0 = omega arith in rw d at p
+past given P step a (suc e) low none p =
     elim (ℕ-discrete a (suc e)) [
       | yes d ↦ rw d at p
-      | no d ↦
-          step e (z .zeros e (omega (arith, z .from)) (omega arith))
-          (past s P step a e (record { from = omega (arith, z .from); zeros = λ i h k. z .zeros i h (omega arith) }) p)
+      | no d ↦ step e (none e (omega arith) (omega arith)) (past given P step a e (omega arith) (λ i h k. none i h (omega arith)) p)
     ]
 
 module _ (t : Table) (r : ℕ) where
   -- the places of a row's targets, as letters
-  pub skipped-arcless : (x e : ℕ) → Skipped t (r * width + 2 + x) (r * width + 2 + letters) e → Arcless t r x (e - (r * width + 2))
-  skipped-arcless x e d =
+  pub skipped-arc : (x e : ℕ) → Skipped t (r * width + 2 + x) (r * width + 2 + letters) e → NextArc t r x (e - (r * width + 2))
+  skipped-arc x e d =
       record {
         from = omega (arith, d .before .from);
         to = omega (arith, d .to);
         none = λ y h k. d .before .zeros (r * width + 2 + y) (omega arith) (omega (arith, d .before .from));
+        stops = λ h.
+            let place : r * width + 2 + (e - (r * width + 2)) ≡ e = omega (arith, d .before .from) in
+            rw place (d .stops (omega arith));
       }
-
-  -- what a letter without a target keeps is kept past all of them
-  pub skips : (P : ℕ → Type 0) → ((x : ℕ) → target t r x ≡ 0 → P x → P (suc x)) → (y e : ℕ) → Arcless t r y e → P y → P e
-  skips P step y zero a p = let d : y ≡ 0 = omega (arith, a .from) in rw d at p
-  skips P step y (suc e) a p =
-      elim (ℕ-discrete y (suc e)) [
-        | yes d ↦ rw d at p
-        | no d ↦
-            step e (a .none e (omega (arith, a .from)) (omega arith))
-            (skips P step y e (record { from = omega (arith, a .from); to = omega (arith, a .to); none = λ z h k. a .none z h (omega arith) }) p)
-      ]
 
   -- the targets of a row, taken out of the table
   pub row-target : (x : ℕ) → x < letters → getD (rowTargets t r) x 0 ≡ target t r x

@@ -1,7 +1,7 @@
 -- Numbers that are 0, which a loop over a row may skip. Assumes nothing.
 use Prim.Native.Nat.{ℕ, _+_, _≤_, _<_}
 use mathlib.Core.Path.{_≡_}
-use mathlib.Core.Bool.{Bool}
+use mathlib.Core.Bool.{Bool, false}
 use mathlib.Core.List.{List}
 use lib.Dec.{eqb}
 use lib.ListN.{getD}
@@ -24,8 +24,15 @@ pub record Skipped (s : List ℕ) (a end e : ℕ) : Type 0 where
   pub to : e ≤ end
   pub stops : e < end → 0 < getD s e 0
 
--- row r has no target for the letters from x on that are below e
-pub record Arcless (t : Table) (r x e : ℕ) : Type 0 where
+-- the same, eight numbers at a time: fewer than eight are left, or they are not all 0
+pub record SkippedEights (s : List ℕ) (a end e : ℕ) : Type 0 where
+  pub before : Zeros s a e
+  pub to : e ≤ end
+  pub stops : e + 8 ≤ end → eightZeros s e ≡ false
+
+-- e is the first letter from x on for which row r has a target, or the number of letters
+pub record NextArc (t : Table) (r x e : ℕ) : Type 0 where
   pub from : x ≤ e
   pub to : e ≤ letters
   pub none : (y : ℕ) → x ≤ y → y < e → target t r y ≡ 0
+  pub stops : e < letters → 0 < target t r e

@@ -7,7 +7,7 @@ ghost use mathlib.Core.Path.{_≡_};
 ghost use lib.ListN.{length};
 ghost use Rattle.letters.specs.Letters.{letters};
 ghost use Rattle.rows.specs.Table.{rowCount};
-ghost use Rattle.rows.specs.Skips.{eightZeros, Zeros, Skipped, Arcless};
+ghost use Rattle.rows.specs.Skips.{eightZeros, Skipped, SkippedEights, NextArc};
 
 // Are the eight numbers from a on 0?
 fn eight_zeros(s: &[u16], a: usize) -> bool
@@ -26,7 +26,7 @@ fn eight_zeros(s: &[u16], a: usize) -> bool
 // Past zeros, eight at a time.
 fn past_eights(s: &[u16], a: usize, end: usize) -> usize
     requires { ⌜ (a ≤ end) × (end ≤ length (now s)) ⌝ }
-    ensures { λ e. ⌜ Zeros (now (s .entry)) a e × (e ≤ end) ⌝ }
+    ensures { λ e. ⌜ SkippedEights (now (s .entry)) a end e ⌝ }
 {
     let mut e = a;
     while e + 8 <= end {
@@ -65,7 +65,7 @@ pub fn past_zeros(s: &[u16], a: usize, end: usize) -> usize
 // The first letter from x on that the row has a target for, or the number of letters.
 pub fn next_arc(t: &[u16], r: usize, x: usize) -> usize
     requires { ⌜ (r < rowCount (now t)) × (x ≤ letters) ⌝ }
-    ensures { λ e. ⌜ Arcless (now (t .entry)) r x e ⌝ }
+    ensures { λ e. ⌜ NextArc (now (t .entry)) r x e ⌝ }
 {
     let first = r * WIDTH + 2;
     past_zeros(t, first + x, first + LETTERS) - first

@@ -30,11 +30,12 @@ loop-holds c =
     let marked = c .before in
     let start = marked .before .before in
     let targets : ℕ → ℕ = λ y. getD (start .args .targets .now) y 0 in
-    let (e, small) = marked .mixed-mark .ensures in (
-      c .past-zeros .ensures .to,
+    let (e, small) = marked .mixed-mark .ensures in
+    let skipped = c .past-zeros .ensures in (
+      skipped .to,
       omega arith,
-      past (start .args .targets .now) (λ x. marked .mixed-mark .result ≡ mix (start .args .mark) targets x)
-          (λ x none e. e ∙ rw (mix-zero (start .args .mark) targets x none)) 0 _ (c .past-zeros .ensures .before)
+      past targets (λ x. marked .mixed-mark .result ≡ mix (start .args .mark) targets x)
+          (λ x none e. e ∙ rw (mix-zero (start .args .mark) targets x none)) 0 _ (skipped .before .from) (skipped .before .zeros)
           (e ∙ mix-none (start .args .mark) _ targets),
     )
 
@@ -62,11 +63,12 @@ loop-again c =
     let l = mixed .before .before .before .loop in
     let start = mixed .before .before .before .before .before .before .before in
     let targets : ℕ → ℕ = λ y. getD (start .args .targets .now) y 0 in
-    let (e, small) = mixed .mixed .ensures in (
-      c .past-zeros2 .ensures .to,
-      omega (arith, c .past-zeros2 .ensures .before .from),
-      past (start .args .targets .now) (λ x. mixed .mixed .result ≡ mix (start .args .mark) targets x)
-          (λ x none e. e ∙ rw (mix-zero (start .args .mark) targets x none)) (l .x + 1) _ (c .past-zeros2 .ensures .before)
+    let (e, small) = mixed .mixed .ensures in
+    let skipped = c .past-zeros2 .ensures in (
+      skipped .to,
+      omega (arith, skipped .before .from),
+      past targets (λ x. mixed .mixed .result ≡ mix (start .args .mark) targets x)
+          (λ x none e. e ∙ rw (mix-zero (start .args .mark) targets x none)) (l .x + 1) _ (skipped .before .from) (skipped .before .zeros)
           (rw add-one (e ∙ rw (l .inv .2) (mix-more (start .args .mark) targets (l .x)))),
     )
 

@@ -1,6 +1,6 @@
 -- `next_arc` meets its promise: the places that are skipped are those of letters without a target. Assumes nothing.
 use borrow.Author.Needs.{needs}
-use Rattle.rows.proofs.Skipping.{skipped-arcless}
+use Rattle.rows.proofs.Skipping.{skipped-arc}
 use Rattle.rows.proofs.skips.next_arc.Statement.{statement}
 use Rattle.rows.proofs.skips.next_arc.Tie as tie
 
@@ -23,7 +23,7 @@ sub-result : tie.Need-sub-result
 sub-result c = search needs
 
 returns : tie.Need-returns
-returns c = skipped-arcless _ _ _ _ (c .past-zeros .ensures)
+returns c = skipped-arc _ _ _ _ (c .past-zeros .ensures)
 
 pub next-arc-spec : {M : Type 1} → statement M
 next-arc-spec =

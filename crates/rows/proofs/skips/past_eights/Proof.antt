@@ -2,7 +2,7 @@
 -- Assumes nothing.
 use Prim.Native.Nat.{_-_, _≤_}
 use mathlib.Core.Path.{sym, _∙_}
-use borrow.Author.Tests.{not-false}
+use borrow.Author.Tests.{not-true, not-false}
 use Rattle.rows.specs.Skips.{Zeros}
 use Rattle.rows.proofs.Skipping.{zeros-none, zeros-both, zeros-eight}
 use native.Mathlib.Omega.{arith}
@@ -26,7 +26,11 @@ eight-zeros-requires : tie.Need-eight-zeros-requires Inv-loop μ-loop
 eight-zeros-requires c κs = search needs
 
 returns : tie.Need-returns Inv-loop μ-loop
-returns c = search needs
+returns c =
+    let called = c .before in
+    let (zeros, to) = called .before .before .loop .inv in
+    let some = sym (called .eight-zeros .ensures) ∙ not-true (called .eight-zeros .result) (c .if1 .taken) in
+    record { before = zeros; to = to; stops = λ _. some }
 
 add-e : tie.Need-add-e Inv-loop μ-loop
 add-e c = search needs
@@ -42,7 +46,9 @@ loop-again c =
     (zeros-both (l .inv .0) (zeros-eight _ zeros), omega arith)
 
 returns-2 : tie.Need-returns-2 Inv-loop μ-loop
-returns-2 c = search needs
+returns-2 c =
+    let (zeros, to) = c .before .loop .inv in
+    record { before = zeros; to = to; stops = λ h. absurd (omega arith) }
 
 pub past-eights-spec : {M : Type 1} → statement M
 past-eights-spec =

@@ -11,7 +11,7 @@ past-ones-requires : tie.Need-past-ones-requires
 past-ones-requires c κs = search needs
 
 returns : tie.Need-returns
-returns c = skipped-both (c .before .past-eights .ensures .0) (c .past-ones .ensures)
+returns c = skipped-both (c .before .past-eights .ensures .before) (c .past-ones .ensures)
 
 pub past-zeros-spec : {M : Type 1} → statement M
 past-zeros-spec = tie.close (tie.spec past-eights-requires past-ones-requires returns)

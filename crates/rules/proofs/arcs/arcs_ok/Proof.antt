@@ -19,13 +19,13 @@ use Rattle.rows.specs.Table.{Table, mark, height, target, inUse}
 use Rattle.rows.specs.Rules.{above, lastOk, arcsOk}
 use Rattle.rules.specs.declared.arcs.Asked.the-variants.{Height, Broken}
 use Rattle.rules.specs.Asked.{asksIf, asks}
-use Rattle.rows.specs.Skips.{Arcless}
+use Rattle.rows.specs.Skips.{NextArc}
 use Rattle.index.specs.Buckets.{factor, mix, most, keyFrom, rowKey}
 use Rattle.index.proofs.Buckets.{mix-none, mix-more, mix-zero}
 use Rattle.index.proofs.Keeping.{keyed-more}
 use Rattle.rules.specs.Pointed.{Pointed}
 use Rattle.sets.proofs.Loops.{all-more}
-use Rattle.rows.proofs.Skipping.{skips}
+use Rattle.rows.proofs.Skipping.{past}
 use Rattle.rules.proofs.Writes.{points-nowhere, points-at-both, not-passed, keyed-if, not-keyed}
 use Rattle.rules.proofs.arcs.arcs_ok.Statement.{statement}
 use Rattle.rules.proofs.arcs.arcs_ok.Tie as tie
@@ -83,8 +83,9 @@ module _ (t : Table) (r : ℕ) where
             rw (none, ne-eqb 0 s (λ d. omega arith)));
       }
 
-  followed-skip : {y e top m : ℕ} {p q : List ℕ} → Followed t r y top m p q → Arcless t r y e → Followed t r e top m p q
-  followed-skip {y} {e} {top} {m} {p} {q} before a = skips t r (λ x. Followed t r x top m p q) followed-zero y e a before
+  followed-skip : {y e top m : ℕ} {p q : List ℕ} → Followed t r y top m p q → NextArc t r y e → Followed t r e top m p q
+  followed-skip {y} {e} {top} {m} {p} {q} before next =
+      past (λ x. target t r x) (λ x. Followed t r x top m p q) followed-zero y e (next .from) (next .none) before
 
   arcs-broken : (x n : ℕ) → x < letters → n ≡ target t r x → asks t n ≡ Broken → arcsOk t r ≡ false
   arcs-broken x n h at e = rw (not-all-below _ letters x h (rw at at (asks-broken (eqb n 0 || inUse t n) (above t n) e)))
