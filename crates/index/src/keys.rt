@@ -1,10 +1,11 @@
 // The key of a mark and 37 targets, and the bucket of a key.
 use letters::LETTERS;
 use rows::past_zeros;
-ghost use Prim.Native.Nat.{suc, _+_, _*_, _<_};
+ghost use Prim.Native.Nat.{suc, _+_, _*_, _≤_, _<_};
 ghost use mathlib.Core.Path.{_≡_};
 ghost use lib.ListN.{length, getD};
 ghost use Rattle.letters.specs.Letters.{letters};
+ghost use Rattle.rows.specs.Skips.{Skipped};
 ghost use Rattle.index.specs.Buckets.{factor, mix, most, keyFrom, keyOf, bucketOf};
 
 // 2 to the power 16.
@@ -48,15 +49,27 @@ pub fn key_from(m: u64) -> u16
     (m / SHARE % SHARE) as u16
 }
 
+// The first target from letter x on, or the number of letters. Where a row has many targets, it is most often that of
+// x itself.
+fn next_target(targets: &[u16], x: usize) -> usize
+    requires { ⌜ (length (now targets) ≡ letters) × (x ≤ letters) ⌝ }
+    ensures { λ e. ⌜ Skipped (now (targets .entry)) x letters e ⌝ }
+{
+    if x < LETTERS && targets[x] != 0 {
+        return x;
+    }
+    past_zeros(targets, x, LETTERS)
+}
+
 pub fn key_of(mark: u16, targets: &[u16]) -> u16
     requires { ⌜ length (now targets) ≡ letters ⌝ }
     ensures { λ k. ⌜ k ≡ keyOf mark (λ x. getD (now (targets .entry)) x 0) ⌝ }
 {
     let mut m = mixed_mark(mark);
-    let mut x = past_zeros(targets, 0, LETTERS);
+    let mut x = next_target(targets, 0);
     while x < LETTERS {
         m = mixed(m, x, targets[x]);
-        x = past_zeros(targets, x + 1, LETTERS);
+        x = next_target(targets, x + 1);
     }
     key_from(m)
 }

@@ -135,6 +135,13 @@ module _ (t : Table) (facts : Sound t) where
   pub used-rows-need : usedRows t ≡ need (lists t)
   used-rows-need = ap (countOf (rowCount t)) (fun-ext in-use-reached) ∙ reached-need t tidy (starts t) named
 
+-- a row in use whose words are left of the lists has the words of a row that is reached, so it is that row
+pub useful-reached : (t : Table) → Tidy t → Useful (lists t) t → (r : ℕ) → Used t r → reached t r ≡ true
+useful-reached t tidy useful r p =
+    let named = starts-named t tidy in
+    let (s, e, same) = states-kept t tidy (starts t) named (useful r p) in
+    rw (same-words t tidy r s p (reached-used t tidy (starts t) named s e) (sym same)) e
+
 pub useful-rows : (t : Table) → Tidy t → (ls : List Words) → Useful ls t → usedRows t ≤ need ls
 unfolding need
 useful-rows t tidy ls useful =

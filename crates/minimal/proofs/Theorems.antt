@@ -27,7 +27,7 @@ use Rattle.rows.proofs.Books.{lists-sixteen, lists-plain, lists-names, starts-n
 use Rattle.minimal.specs.Book.{automaton}
 use Rattle.minimal.specs.Places.{OneToOne}
 use Rattle.minimal.specs.Renumbered.{Renumbered}
-use Rattle.minimal.proofs.Places.{reached-need, used-in-states, used-one-to-one, used-rows-need, useful-rows}
+use Rattle.minimal.proofs.Places.{reached-need, used-in-states, used-one-to-one, used-rows-need, useful-rows, useful-reached}
 use Rattle.minimal.proofs.Book.{state-used, automaton-size, automaton-once, automaton-languages}
 use Rattle.minimal.proofs.Book.{automaton-acyclic, automaton-reached, automaton-useful, automaton-different}
 use Rattle.minimal.proofs.Renumbering.{renumbered-sound}
@@ -56,6 +56,10 @@ row-need t tidy r named = simp or-false at (reached-need t tidy (r ∷ []) (name
 -- Where the words of every row in use are left of some lists, no more rows are in use than those lists need.
 pub useful-need : (t : Table) → Tidy t → (ls : List Words) → Useful ls t → usedRows t ≤ need ls
 useful-need = useful-rows
+
+-- Where they are left of the table's own lists, every row in use is reached from a start.
+pub needed-reached : (t : Table) → Tidy t → Useful (lists t) t → (r : ℕ) → Used t r → reached t r ≡ true
+needed-reached = useful-reached
 
 -- The states of a book's automaton are counted by the rows in use.
 pub book-size : (t : Table) → size (automaton t) ≡ usedRows t

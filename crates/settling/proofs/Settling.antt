@@ -14,27 +14,28 @@ use lib.ListN.{length, getD, length-set}
 use lib.Seq.{ext-getD, getD-set-same, getD-set-other, set-getD, set-set}
 use borrow.Author.Tests.{leb-true, le-leb}
 use Rattle.letters.specs.LetterSet.{countOf}
-use Rattle.letters.proofs.LetterSet.{count-more}
+use Rattle.letters.proofs.LetterSet.{count-agree, count-more}
 use Rattle.sets.specs.Sets.{member}
+use Rattle.sets.proofs.Below.{tests-agree}
 use Rattle.model.specs.Lists.{missions, listOf, replace}
 use Rattle.model.proofs.Lists.{replace-same, replace-other}
-use Rattle.rows.specs.Table.{Table, width, rowCount, start, starts, mark, target, inUse, room}
+use Rattle.rows.specs.Table.{Table, width, rowCount, start, starts, mark, target, inUse, usedRows, room}
 use Rattle.rows.specs.Words.{words, lists}
 use Rattle.rows.specs.Rules.{sound}
 use Rattle.rows.specs.Tidy.{Used, Tidy}
-use Rattle.rows.specs.Reach.{reached}
-use Rattle.rows.specs.Growth.{Grown}
-use Rattle.rows.proofs.Facts.{row-inside, used-in-use}
+use Rattle.rows.specs.Reach.{reached, swept}
+use Rattle.rows.specs.Growth.{Grown, Useful}
+use Rattle.rows.proofs.Facts.{row-inside, in-use-used, used-in-use}
 use Rattle.rows.proofs.Cells.{same-mark}
 use Rattle.rows.proofs.Rules.{sound-facts}
 use Rattle.rows.proofs.Words.{words-none, mark-word}
 use Rattle.rows.proofs.Reach.{reached-used}
 use Rattle.rows.proofs.Books.{lists-sixteen, list-names, starts-named}
-use Rattle.rows.proofs.Growth.{words-same, lists-kept}
-use Rattle.minimal.proofs.Theorems.{starts-need}
+use Rattle.rows.proofs.Growth.{words-same, lists-kept, grown-self}
+use Rattle.minimal.proofs.Theorems.{starts-need, needed-reached}
 use Rattle.settling.specs.Settled.{withStart, Startable, fits, Settles, Changed}
 use Rattle.settling.proofs.Parts.{Part, part-tidy}
-use Rattle.settling.proofs.Swept.{only-length, swept-grown, swept-lists, swept-sound}
+use Rattle.settling.proofs.Swept.{only-length, swept-back, swept-grown, swept-lists, swept-sound}
 
 pub no-row-startable : (t : Table) → Startable t 0
 unfolding member
@@ -147,6 +148,30 @@ module _ (t : Table) (m r : ℕ) (tidy : Tidy t) (below : m < missions) where
   pub start-says : Startable t r → {v : Table} → v ≡ withStart t m r
       → leb (countOf (rowCount v) (λ s. reached v s)) (room v) ≡ fits t m (words t r)
   start-says startable same = rw same (start-fits startable)
+
+  -- where every row in use is needed with the new list, all of them are reached: nothing is to be freed, and they are the rows to count
+  module _ (startable : Startable t r) (useful : Useful (replace (lists t) m (words t r)) t) where
+    abbrev v : Table
+    v = withStart t m r
+
+    neat : Tidy v
+    neat = start-tidy startable
+
+    all-reached : (s : ℕ) → Used v s → reached v s ≡ true
+    all-reached =
+        needed-reached v neat (λ s p. rw (start-lists, start-words t m r below s) (useful s (used-before t m r below s p)))
+
+    in-use-reached : (s : ℕ) → inUse t s ≡ reached v s
+    in-use-reached s =
+        tests-agree (inUse t s) (reached v s) (λ e. all-reached s (used-after t m r below s (in-use-used t s e)))
+        (λ e. used-in-use (used-before t m r below s (reached-used v neat (starts v) (starts-named v neat) s e)))
+
+    pub useful-fits : leb (usedRows t) (room t) ≡ fits t m (words t r)
+    useful-fits =
+        rw (count-agree (rowCount t) _ _ (λ s h. in-use-reached s)) (rw (start-long t m r below) at (start-fits startable))
+
+    pub useful-swept : swept (withStart t m r) ≡ withStart t m r
+    useful-swept = swept-back v v neat all-reached (grown-self v)
 
 pub clear-fits : (t : Table) → sound t ≡ true → (m : ℕ) → m < missions → fits t m [] ≡ true
 clear-fits t e m below =

@@ -140,6 +140,13 @@ module _ (t : Table) (keep : List ℕ) where
   stays-done v r whole past now =
       now ∙ only-agree t (λ s. stays keep r s) (λ s. marked keep s) (λ s some inside. rw (lt-leb r s (omega arith)))
 
+-- the test of a number of rows against the room
+pub too-many : (a b n k : ℕ) → n ≡ a → k ≡ b → k < n → false ≡ leb a b
+too-many a b n k e d h = rw (← e, ← d) (sym (lt-leb n k h))
+
+pub enough : (a b n k : ℕ) → n ≡ a → k ≡ b → n ≤ k → true ≡ leb a b
+enough a b n k e d h = rw (← e, ← d) (sym (le-leb n k h))
+
 -- marking the rows that pass a test and keeping the marked ones keeps those that pass
 pub marks-only : (t : Table) (test : ℕ → Bool) (keep : List ℕ) → length t ≡ rowCount t * width → Marks t test keep
     → onlyRows t (λ r. marked keep r) ≡ onlyRows t test

@@ -4,7 +4,7 @@ use native.Mathlib.Omega.{arith}
 use borrow.Author.Needs.{needs}
 use Rattle.rows.proofs.Rules.{sound-facts, sound-length, start-inside}
 use Rattle.rows.proofs.Books.{start-named}
-use Rattle.filling.proofs.Outcomes.{first, second, third, combine-fills, combined-value, filled-full, filled-startable, filled-settled}
+use Rattle.filling.proofs.Outcomes.{first, second, third, combine-fills, combined-value, filled-full, filled-startable, filled-useful, filled-settled}
 use Rattle.filling.proofs.combines.fill_combined.Statement.{statement}
 use Rattle.filling.proofs.combines.fill_combined.Tie as tie
 
@@ -39,13 +39,14 @@ combine-rows-requires c κs =
 enum-known-r : tie.Need-enum-known-r
 enum-known-r c = search needs
 
-settle-requires : tie.Need-settle-requires
-settle-requires c κs =
+settle-useful-requires : tie.Need-settle-useful-requires
+settle-useful-requires c κs =
     let called = c .before .before .before .before .before .before .before .before in
     let asked = called .before .before .before in
     let (given, _, empty) = begin asked .pre in
     let made = rw (c .before .before .r .given .1, asked .before .before .start .ensures, asked .start2 .ensures) at (called .combine-rows .ensures) in
-    (made .grows .tidy, omega (arith, third _ _ _ _ _ given), filled-startable (combine-fills _ _ _ _ _ given empty) _ _ _ made)
+    let fills = combine-fills _ _ _ _ _ given empty in
+    (made .grows .tidy, omega (arith, third _ _ _ _ _ given), filled-startable fills _ _ _ made, filled-useful fills _ _ _ made)
 
 has-names-requires : tie.Need-has-names-requires
 has-names-requires c κs = search needs
@@ -78,7 +79,7 @@ returns c =
     rw (settled .before .before .before .r .given .1, asked .before .before .start .ensures, asked .start2 .ensures) at (called .combine-rows .ensures)
     in
     rw (c .settled .ensures, c .before .has-names .ensures, combined-value _ made)
-    (filled-settled (combine-fills _ _ _ _ _ given empty) _ _ _ made _ _ (settled .settle .ensures))
+    (filled-settled (combine-fills _ _ _ _ _ given empty) _ _ _ made _ _ (settled .settle-useful .ensures))
 
 same-length-3 : tie.Need-same-length-3
 same-length-3 c = search needs
@@ -105,7 +106,7 @@ fill-combined-spec =
     start-requires-2
     combine-rows-requires
     enum-known-r
-    settle-requires
+    settle-useful-requires
     has-names-requires
     settled-requires
     enum-told

@@ -3,7 +3,7 @@
 use native.Mathlib.Omega.{arith}
 use borrow.Author.Needs.{needs}
 use Rattle.rows.proofs.Rules.{sound-facts}
-use Rattle.filling.proofs.Outcomes.{list-few, load-fills, filled-full, filled-startable, filled-settled}
+use Rattle.filling.proofs.Outcomes.{list-few, load-fills, filled-full, filled-startable, filled-useful, filled-settled}
 use Rattle.filling.proofs.loads.fill_list.Statement.{statement}
 use Rattle.filling.proofs.loads.fill_list.Tie as tie
 
@@ -27,12 +27,13 @@ enum-known-r c = search needs
 abbrev begin : tie.After-build-list → tie.Start
 begin c = c .before .before .before .before .before .before .before
 
-settle-requires : tie.Need-settle-requires
-settle-requires c κs =
+settle-useful-requires : tie.Need-settle-useful-requires
+settle-useful-requires c κs =
     let called = c .before .before .before .before .before .before .before .before in
     let (given, _, empty) = begin called .pre in
     let made = rw (c .before .before .r .given .1) at (called .build-list .ensures) in
-    (made .grows .tidy, omega (arith, given .mission), filled-startable (load-fills _ _ _ given empty) _ _ _ made)
+    let fills = load-fills _ _ _ given empty in
+    (made .grows .tidy, omega (arith, given .mission), filled-startable fills _ _ _ made, filled-useful fills _ _ _ made)
 
 settled-requires : tie.Need-settled-requires
 settled-requires c κs = search needs
@@ -59,7 +60,7 @@ returns c =
     let (given, _, empty) = begin called .pre in
     let made = rw (settled .before .before .before .r .given .1) at (called .build-list .ensures) in
     rw (c .settled .ensures, called .before .before .before .name-count .ensures)
-    (filled-settled (load-fills _ _ _ given empty) _ _ _ made _ _ (settled .settle .ensures))
+    (filled-settled (load-fills _ _ _ given empty) _ _ _ made _ _ (settled .settle-useful .ensures))
 
 same-length-3 : tie.Need-same-length-3
 same-length-3 c = search needs
@@ -83,7 +84,7 @@ fill-list-spec =
     cast-names
     build-list-requires
     enum-known-r
-    settle-requires
+    settle-useful-requires
     settled-requires
     enum-told
     no-room-requires

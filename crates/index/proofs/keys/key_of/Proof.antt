@@ -22,8 +22,8 @@ abbrev μ-loop : tie.MeasureT-loop
 mixed-mark-requires : tie.Need-mixed-mark-requires Inv-loop μ-loop
 mixed-mark-requires c κs = search needs
 
-past-zeros-requires : tie.Need-past-zeros-requires Inv-loop μ-loop
-past-zeros-requires c κs = search needs
+next-target-requires : tie.Need-next-target-requires Inv-loop μ-loop
+next-target-requires c κs = search needs
 
 loop-holds : tie.Need-loop-holds Inv-loop μ-loop
 loop-holds c =
@@ -31,7 +31,7 @@ loop-holds c =
     let start = marked .before .before in
     let targets : ℕ → ℕ = λ y. getD (start .args .targets .now) y 0 in
     let (e, small) = marked .mixed-mark .ensures in
-    let skipped = c .past-zeros .ensures in (
+    let skipped = c .next-target .ensures in (
       skipped .to,
       omega arith,
       past targets (λ x. marked .mixed-mark .result ≡ mix (start .args .mark) targets x)
@@ -48,11 +48,11 @@ shared-slice-read-mixed c = search needs
 mixed-requires : tie.Need-mixed-requires Inv-loop μ-loop
 mixed-requires c κs = search needs
 
-add-past-zeros : tie.Need-add-past-zeros Inv-loop μ-loop
-add-past-zeros c = search needs
+add-next-target : tie.Need-add-next-target Inv-loop μ-loop
+add-next-target c = search needs
 
-past-zeros-requires-2 : tie.Need-past-zeros-requires-2 Inv-loop μ-loop
-past-zeros-requires-2 c κs = search needs
+next-target-requires-2 : tie.Need-next-target-requires-2 Inv-loop μ-loop
+next-target-requires-2 c κs = search needs
 
 loop-less : tie.Need-loop-less Inv-loop μ-loop
 loop-less c = search needs
@@ -64,7 +64,7 @@ loop-again c =
     let start = mixed .before .before .before .before .before .before .before in
     let targets : ℕ → ℕ = λ y. getD (start .args .targets .now) y 0 in
     let (e, small) = mixed .mixed .ensures in
-    let skipped = c .past-zeros2 .ensures in (
+    let skipped = c .next-target2 .ensures in (
       skipped .to,
       omega (arith, skipped .before .from),
       past targets (λ x. mixed .mixed .result ≡ mix (start .args .mark) targets x)
@@ -88,13 +88,13 @@ key-of-spec =
     Inv-loop
     μ-loop
     mixed-mark-requires
-    past-zeros-requires
+    next-target-requires
     loop-holds
     mul-mixed
     shared-slice-read-mixed
     mixed-requires
-    add-past-zeros
-    past-zeros-requires-2
+    add-next-target
+    next-target-requires-2
     loop-less
     loop-again
     key-from-requires

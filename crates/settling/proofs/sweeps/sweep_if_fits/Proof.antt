@@ -1,25 +1,15 @@
 -- `sweep_if_fits` meets its promise: the array is zeros, so it marks no row; then it marks the rows that are reached, these are counted, and if
 -- they are few enough the others are freed. Assumes nothing.
-use Prim.Native.Nat.{ℕ, _≤_, _<_}
-use mathlib.Core.Path.{_≡_, refl, sym, _∙_}
-use mathlib.Core.Bool.{true, false}
+use mathlib.Core.Path.{_≡_, refl, _∙_}
 use borrow.Author.Needs.{needs}
-use borrow.Author.Tests.{le-leb, lt-leb}
-use lib.Dec.{leb}
 use Rattle.letters.specs.LetterSet.{countOf}
 use Rattle.rows.specs.Table.{rowCount}
 use Rattle.rows.specs.Reach.{reached}
 use Rattle.reaching.proofs.Marking.{marks-itself, zeros-mark-none}
 use Rattle.reaching.proofs.Spreading.{reached-count}
-use Rattle.settling.proofs.Sweeping.{marks-only}
+use Rattle.settling.proofs.Sweeping.{too-many, enough, marks-only}
 use Rattle.settling.proofs.sweeps.sweep_if_fits.Statement.{statement}
 use Rattle.settling.proofs.sweeps.sweep_if_fits.Tie as tie
-
-too-many : (a b n k : ℕ) → n ≡ a → k ≡ b → k < n → false ≡ leb a b
-too-many a b n k e d h = rw (← e, ← d) (sym (lt-leb n k h))
-
-enough : (a b n k : ℕ) → n ≡ a → k ≡ b → n ≤ k → true ≡ leb a b
-enough a b n k e d h = rw (← e, ← d) (sym (le-leb n k h))
 
 abbrev marking : (c : tie.After-count-marked) → tie.After-mark-reached
 marking c = c .before .before .before .before .before .before
