@@ -48,7 +48,8 @@ fn build(t: &mut [u16], index: &mut [u16], list: &[u8], at: usize, depth: usize)
 // The row for the names of a list. "No bytes is the empty list."
 pub fn build_list(t: &mut [u16], index: &mut [u16], list: &[u8]) -> Made
     requires { ⌜ Tidy (now t) × Indexed (now t) (now index) × (isList (now list) ≡ true) ⌝ }
-    ensures { λ made. ⌜ Makes (rowCount (now (t .entry))) (now (t .entry)) (now (t .exit)) (namesOf (now (list .entry))) made ⌝ }
+    ensures makes { λ made. ⌜ Makes (rowCount (now (t .entry))) (now (t .entry)) (now (t .exit)) (namesOf (now (list .entry))) made ⌝ }
+    ensures indexed { λ _. ⌜ Indexed (now (t .exit)) (now (index .exit)) ⌝ }
 {
     if list.len() == 0 {
         return Made::Row(0);

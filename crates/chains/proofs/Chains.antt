@@ -46,6 +46,17 @@ chained-of same c =
       links = λ q some h. rw (sym (same q some h)) (latest-of (λ s above k. same s above (omega arith)) (c .links q some h));
     }
 
+-- chains are what an array says at the places of the kinds and of the rows, and nothing behind them
+pub chained-same : {kinds : ℕ} {of : ℕ → ℕ} {n : ℕ} {chains other : List ℕ} → length other ≡ length chains
+    → ((i : ℕ) → i < kinds + mostRows → getD other i 0 ≡ getD chains i 0) → Chained kinds of n chains → Chained kinds of n other
+chained-same {kinds} long same c =
+    record {
+      long = omega (arith, c .long);
+      most = c .most;
+      lasts = λ kind h. rw (same kind (omega arith)) (c .lasts kind h);
+      links = λ q some h. rw (same (kinds + q) (omega (arith, c .most))) (c .links q some h);
+    }
+
 pub chained-none : (kinds : ℕ) (of : ℕ → ℕ) (chains : List ℕ) → kinds + mostRows ≤ length chains
     → ((i : ℕ) → i < kinds → getD chains i 0 ≡ 0) → Chained kinds of 1 chains
 chained-none kinds of chains long zeros =

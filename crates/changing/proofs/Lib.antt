@@ -2,5 +2,6 @@
 -- Assumes nothing.
 pub mod Changes
 pub mod Tight
+pub mod Reached
 mod Naming
 mod Outcomes

@@ -40,7 +40,7 @@ fn change_name(t: &mut [u16], index: &mut [u16], m: usize, name: &[u8], on: bool
 {
     let r = start(t, m);
     match path(t, index, r, name, on) {
-        Made::Row(n) => settled(settle(t, m, n), 1),
+        Made::Row(n) => settled(settle(t, index, m, n), 1),
         Made::Full => Answer::Refused(Refusal::NoRoom),
     }
 }

@@ -18,7 +18,7 @@ use Rattle.sets.proofs.States.{list-in-states, after-in-states, states-all}
 use Rattle.model.specs.Lists.{missions, listOf, replace}
 use Rattle.model.proofs.Lists.{replace-same, replace-other}
 use Rattle.rows.specs.Table.{Table, room, start}
-use Rattle.rows.specs.Words.{words, lists}
+use Rattle.rows.specs.Words.{lists}
 use Rattle.rows.specs.Rules.{sound}
 use Rattle.rows.specs.Growth.{Useful}
 use Rattle.rows.specs.Reach.{swept}
@@ -26,7 +26,6 @@ use Rattle.rows.proofs.Rules.{sound-facts}
 use Rattle.rows.proofs.Facts.{named-cases}
 use Rattle.rows.proofs.Words.{has-word}
 use Rattle.rows.proofs.Books.{lists-sixteen, no-start}
-use Rattle.rows.proofs.Growth.{lists-kept}
 use Rattle.minimal.proofs.Theorems.{useful-need, sound-useful}
 use Rattle.growing.specs.Growing.{MadeRow, MadeFull}
 use Rattle.settling.specs.Settled.{withStart, Startable, Settles, Changed}
@@ -82,10 +81,6 @@ module _ (t : Table) (s : sound t ≡ true) (m : ℕ) (h : m < missions) (empty 
     module _ (u : Table) (most r : ℕ) (made : MadeRow most t u l r) (names : member [] l ≡ false) where
       pub row-startable : Startable u r
       row-startable = record { named = made .named; no-empty = rw (made .has) names }
-
-      pub row-useful : Useful (replace (lists u) m (words u r)) u
-      row-useful =
-          rw (lists-kept t u (made .grows .grown) (sound-facts t s .tidy), made .has) (made .grows .useful new list-needed still-useful)
 
       module _ (after : Table) (done : Bool) (settles : Settles u after m r done) where
         pub row-changed : Changed t after m l done

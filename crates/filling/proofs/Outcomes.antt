@@ -28,7 +28,6 @@ use Rattle.rows.specs.Words.{words, lists}
 use Rattle.rows.specs.Rules.{sound}
 use Rattle.rows.specs.Tidy.{Tidy}
 use Rattle.rows.specs.Reach.{swept}
-use Rattle.rows.specs.Growth.{Useful}
 use Rattle.rows.proofs.Rules.{sound-facts, sound-length}
 use Rattle.rows.proofs.Facts.{named-inside}
 use Rattle.rows.proofs.Books.{list-names, no-start, no-empty, row-names, start-names}
@@ -41,7 +40,7 @@ use Rattle.admitting.specs.Admission.{firstTests}
 use Rattle.changing.specs.Promises.{settledAnswer, Changes}
 use Rattle.changing.proofs.Changes.{refused-changes, fits-or-not, settled-changes}
 use Rattle.filling.specs.Filling.{Loadable, highest, Combinable}
-use Rattle.filling.proofs.Filling.{full-changed, row-startable, row-useful, row-changed, row-same}
+use Rattle.filling.proofs.Filling.{full-changed, row-startable, row-changed, row-same}
 
 run-ruled : (b : Book) (call : Call) → run b call ≡ ruled b (rule b call)
 unfolding run
@@ -74,9 +73,6 @@ module _ {t : Table} {m : ℕ} {call : Call} {l : Words} {v : ℕ} (fills : Fill
   module _ (u : Table) (most r : ℕ) (made : MadeRow most t u l r) where
     pub filled-startable : Startable u r
     filled-startable = row-startable t (fills .sound) m (fills .mission) (fills .empty) l u most r made (fills .names)
-
-    pub filled-useful : Useful (replace (lists u) m (words u r)) u
-    filled-useful = row-useful t (fills .sound) m (fills .mission) (fills .empty) l u most r made (fills .names)
 
     pub filled-settled : (after : Table) (done : Bool) → Settles u after m r done → Changes t after call (settledAnswer done v)
     filled-settled after done settles =

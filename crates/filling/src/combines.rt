@@ -9,7 +9,7 @@ use growing::Made;
 use index::INDEX;
 use pairing::combine_rows;
 use rows::start;
-use settling::settle_useful;
+use settling::settle;
 ghost use Prim.Native.Nat.{max};
 ghost use mathlib.Core.Path.{_≡_};
 ghost use lib.Dec.{ltb};
@@ -36,7 +36,7 @@ fn fill_combined(t: &mut [u16], index: &mut [u16], op: u32, a: usize, b: usize, 
     let p = start(t, a);
     let q = start(t, b);
     match combine_rows(t, index, op, p, q) {
-        Made::Row(r) => settled(settle_useful(t, c, r), has_names(r)),
+        Made::Row(r) => settled(settle(t, index, c, r), has_names(r)),
         Made::Full => no_room(t),
     }
 }

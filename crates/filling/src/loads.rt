@@ -11,7 +11,7 @@ use index::INDEX;
 use letters::is_list;
 use letters::name_count;
 use rows::start;
-use settling::settle_useful;
+use settling::settle;
 ghost use mathlib.Core.Path.{_≡_};
 ghost use Rattle.model.specs.Call.Call.{load};
 ghost use Rattle.rows.specs.Table.{start};
@@ -26,7 +26,7 @@ fn fill_list(t: &mut [u16], index: &mut [u16], m: usize, list: &[u8]) -> Answer
 {
     let names = name_count(list) as u32;
     match build_list(t, index, list) {
-        Made::Row(r) => settled(settle_useful(t, m, r), names),
+        Made::Row(r) => settled(settle(t, index, m, r), names),
         Made::Full => no_room(t),
     }
 }

@@ -10,11 +10,12 @@ use native.Mathlib.Omega.{arith}
 use borrow.Author.Tests.{eq-eqb, ne-eqb}
 use lib.ListN.{length, getD, set, length-set}
 use lib.Seq.{getD-set-same, getD-set-other}
+use Rattle.letters.specs.Letters.{letters}
 use Rattle.rows.specs.Table.{Table, mostRows}
 use Rattle.rows.proofs.Skipping.{lower-or-not}
 use Rattle.chains.specs.Chains.{Latest, Chained}
 use Rattle.index.specs.Buckets.{rowKey, bucket, buckets}
-use Rattle.index.specs.Index.{keyPlace, indexLength, Indexed, Behind, Above, Gaps, SomeChains, entered, Entering}
+use Rattle.index.specs.Index.{keyPlace, arcsPlace, indexLength, Indexed, Behind, Above, Gaps, SomeChains, entered, Entering}
 use Rattle.index.proofs.Buckets.{bucket-used, bucket-small}
 
 -- v stands at a place of the chain of bucket b: it is the last row of the bucket before top
@@ -81,6 +82,7 @@ record Cells (index : List ℕ) (place r key : ℕ) : Type 0 where
       → getD (entered index place r key) i 0 ≡ getD index i 0
   keyed : getD (entered index place r key) (keyPlace r) 0 ≡ key
   keys : (q : ℕ) → (q ≡ r → ⊥) → getD (entered index place r key) (keyPlace q) 0 ≡ getD index (keyPlace q) 0
+  arcs : (s : ℕ) → getD (entered index place r key) (arcsPlace s) 0 ≡ getD index (arcsPlace s) 0
 
 key-far : (q i : ℕ) → i < buckets + mostRows → i ≡ keyPlace q → ⊥
 key-far q i h e = omega arith
@@ -115,6 +117,12 @@ entered-cells {r} {place} {index} key long c inside some small at =
           let key-next : keyPlace q ≡ buckets + r → ⊥ = λ e. key-far q (buckets + r) next (sym e) in
           let key-here : keyPlace q ≡ place → ⊥ = λ e. key-far q place here (sym e) in
           let keys : keyPlace q ≡ keyPlace r → ⊥ = λ e. d (add-left-cancel (buckets + mostRows) e) in
+          simp getD-set-other;
+      arcs = λ s.
+          let arcs-first : arcsPlace s ≡ 0 → ⊥ = λ e. omega arith in
+          let arcs-next : arcsPlace s ≡ buckets + r → ⊥ = λ e. omega arith in
+          let arcs-here : arcsPlace s ≡ place → ⊥ = λ e. omega arith in
+          let arcs-key : arcsPlace s ≡ keyPlace r → ⊥ = λ e. omega arith in
           simp getD-set-other;
     }
 
@@ -256,8 +264,8 @@ pub stored-entered : (index : List ℕ) (place r : ℕ) {key : ℕ} (k : ℕ) �
     set (set (set one (buckets + r) (getD one place 0)) place r) (keyPlace r) key ≡ entered index place r k
 stored-entered index place r k some e = rw (getD-set-other index 0 place (getD index (buckets + r) 0) 0 (λ d. omega arith), e)
 
--- row r is written, and the place is that where it comes into the chain of its bucket
-module _ {t : Table} {r place : ℕ} {index : List ℕ} (entering : Entering t r index) (gap : Gaps index (bucket t r) r place) where
+-- row r is written and its arcs are counted, and the place is that where it comes into the chain of its bucket
+module _ {t : Table} {r place : ℕ} {index : List ℕ} (entering : Entering t r letters index) (gap : Gaps index (bucket t r) r place) where
   some-bucket : 0 < bucket t r
   some-bucket = rw (bucket-used (entering .used)) (omega arith)
 
@@ -287,4 +295,5 @@ module _ {t : Table} {r place : ℕ} {index : List ℕ} (entering : Entering t r
         chained =
             entered-chained (rw (eq-eqb r r refl)) refl some-bucket (λ q d. rw (ne-eqb q r d)) c (entering .first) (u .positive) (u .inside)
             small at before cell;
+        arcs = λ s some h. omega (arith, cell .arcs s, entering .arcs s some h);
       }

@@ -1,4 +1,5 @@
--- The keys stand behind the chains, so a key that is kept leaves the chains, and a row that is chained leaves the keys. Assumes nothing.
+-- The keys stand behind the chains, and the numbers of arcs behind them, so a key that is kept leaves the chains, and a row that is chained leaves the
+-- keys and the numbers of arcs. Assumes nothing.
 use Prim.Native.Nat.{ℕ, suc, _+_, _≤_, _<_}
 use mathlib.Core.Path.{_∙_}
 use mathlib.Core.List.{List}
@@ -11,7 +12,7 @@ use Rattle.rows.specs.Tidy.{Used}
 use Rattle.rows.proofs.Zeros.{zero-cell}
 use Rattle.chains.specs.Chains.{linked}
 use Rattle.index.specs.Buckets.{rowKey, buckets}
-use Rattle.index.specs.Index.{keyPlace, indexLength, Keys, Keyed}
+use Rattle.index.specs.Index.{keyPlace, arcsPlace, indexLength, Keys, Keyed, ArcsAt}
 
 -- an array of zeros
 pub keyed-none : (t : Table) → Keyed t 0 (replicate indexLength 0)
@@ -64,3 +65,10 @@ keys-linked {t} {n} {index} b r k small inside =
           ∙ getD-set-other index (buckets + r) (keyPlace q) (getD index b 0) 0 (λ e. omega arith)
           ∙ k .at q h u;
     }
+
+pub arcs-linked : (t : Table) (index : List ℕ) (b r : ℕ) → ArcsAt t index → b < buckets → r < mostRows → ArcsAt t (linked index buckets b r)
+arcs-linked t index b r arcs small inside s some h =
+    let link = set index (buckets + r) (getD index b 0) in
+    getD-set-other link b (arcsPlace s) r 0 (λ e. omega arith)
+    ∙ getD-set-other index (buckets + r) (arcsPlace s) (getD index b 0) 0 (λ e. omega arith)
+    ∙ arcs s some h

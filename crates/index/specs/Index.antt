@@ -1,4 +1,5 @@
--- The index of a table: chains of the rows of each bucket and, behind them, the key of each row in use. Assumes nothing.
+-- The index of a table: chains of the rows of each bucket and, behind them, the key of each row in use and the number of arcs that lead to each row.
+-- Assumes nothing.
 use Prim.Native.Nat.{ℕ, _+_, _≤_, _<_}
 use mathlib.Core.Path.{_≡_}
 use mathlib.Core.Bool.{Bool, true, cond, _&&_}
@@ -11,14 +12,25 @@ use Rattle.sets.specs.Below.{allBelow}
 use Rattle.rows.specs.Table.{Table, rowCount, mostRows, mark, target, inUse}
 use Rattle.rows.specs.Tidy.{Used}
 use Rattle.chains.specs.Chains.{Chained}
+use Rattle.index.specs.Arcs.{arcsFrom, arcsTo}
 use Rattle.index.specs.Buckets.{keyOf, rowKey, bucket, buckets}
 
 -- the place of a row's key
 abbrev pub keyPlace : ℕ → ℕ
 keyPlace r = buckets + mostRows + r
 
+-- the place of the number of arcs that lead to a row
+abbrev pub arcsPlace : ℕ → ℕ
+arcsPlace r = buckets + mostRows + mostRows + r
+
 abbrev pub indexLength : ℕ
-indexLength = buckets + mostRows + mostRows
+indexLength = buckets + mostRows + mostRows + mostRows
+
+-- the first n numbers of an array are kept behind the keys, and nothing before them is changed
+pub record Keeps (arcs : List ℕ) (n : ℕ) (before after : List ℕ) : Type 0 where
+  pub long : length after ≡ length before
+  pub kept : (r : ℕ) → r < n → getD after (arcsPlace r) 0 ≡ getD arcs r 0
+  pub others : (i : ℕ) → i < arcsPlace 0 → getD after i 0 ≡ getD before i 0
 
 -- the keys of the rows in use before n are there
 pub record Keys (t : Table) (n : ℕ) (index : List ℕ) : Type 0 where
@@ -30,10 +42,20 @@ pub record Keyed (t : Table) (n : ℕ) (index : List ℕ) : Type 0 where
   pub keys : Keys t n index
   pub blank : (i : ℕ) → i < buckets → getD index i 0 ≡ 0
 
--- every state row is in the chain of its bucket, and the key of every row in use is there
+-- the array has the first n numbers that stand behind the keys
+pub record Takes (index : List ℕ) (n : ℕ) (arcs : List ℕ) : Type 0 where
+  pub long : n ≤ length arcs
+  pub taken : (r : ℕ) → r < n → getD arcs r 0 ≡ getD index (arcsPlace r) 0
+
+-- they say how many arcs lead to each row
+abbrev pub ArcsAt : Table → List ℕ → Type 0
+ArcsAt t index = (s : ℕ) → 0 < s → s < rowCount t → getD index (arcsPlace s) 0 ≡ arcsTo t s
+
+-- every state row is in the chain of its bucket, the key of every row in use is there, and so is the number of arcs that lead to each row
 pub record Indexed (t : Table) (index : List ℕ) : Type 0 where
   pub keys : Keys t (rowCount t) index
   pub chained : Chained buckets (λ r. bucket t r) (rowCount t) index
+  pub arcs : ArcsAt t index
 
 -- 6. "No two rows in use agree in mark and all 37 targets": the row in use has this mark and these targets
 abbrev pub has : Table → ℕ → ℕ → List ℕ → Bool
@@ -79,10 +101,12 @@ abbrev pub entered : List ℕ → ℕ → ℕ → ℕ → List ℕ
 entered index place r key =
     set (set (set (set index 0 (getD index (buckets + r) 0)) (buckets + r) (getD index place 0)) place r) (keyPlace r) key
 
--- row r is written, and the index still says that it is the last free one
-pub record Entering (t : Table) (r : ℕ) (index : List ℕ) : Type 0 where
+-- row r is written, and the index still says that it is the last free one; of its arcs those for the letters below x are counted
+pub record Entering (t : Table) (r x : ℕ) (index : List ℕ) : Type 0 where
   pub long : length index ≡ indexLength
   pub first : getD index 0 0 ≡ r
   pub used : Used t r
   pub chained : Chained buckets (λ q. cond (eqb q r) 0 (bucket t q)) (rowCount t) index
   pub keys : (q : ℕ) → Used t q → (q ≡ r → ⊥) → getD index (keyPlace q) 0 ≡ rowKey t q
+  pub targets : (y : ℕ) → y < letters → target t r y < rowCount t
+  pub arcs : (s : ℕ) → 0 < s → s < rowCount t → getD index (arcsPlace s) 0 + arcsFrom t r letters s ≡ arcsTo t s + arcsFrom t r x s

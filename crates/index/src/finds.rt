@@ -18,22 +18,18 @@ ghost use Rattle.rows.specs.Rules.{hasTwin};
 ghost use Rattle.index.specs.Buckets.{bucketOf, bucket};
 ghost use Rattle.index.specs.Index.{Indexed, has, Wanted, Finds};
 
-// Has the row this mark and these targets?
+// Has the row this mark and these targets? All of them are compared, without a test for each: so many at once.
 fn has(t: &[u16], r: usize, wanted: u16, targets: &[u16]) -> bool
     requires { ⌜ (r < rowCount (now t)) × (length (now targets) ≡ letters) ⌝ }
     ensures { λ b. ⌜ b ≡ has (now (t .entry)) r wanted (now (targets .entry)) ⌝ }
 {
-    if mark(t, r) != wanted {
-        return false;
-    }
+    let mut same = mark(t, r) == wanted;
     let mut x = 0;
     while x < LETTERS {
-        if target(t, r, x) != targets[x] {
-            return false;
-        }
+        same &= target(t, r, x) == targets[x];
         x += 1;
     }
-    true
+    same
 }
 
 // Is it so of a row in use? Most rows that differ have another key.

@@ -135,12 +135,12 @@ module _ (t : Table) (facts : Sound t) where
   pub used-rows-need : usedRows t ≡ need (lists t)
   used-rows-need = ap (countOf (rowCount t)) (fun-ext in-use-reached) ∙ reached-need t tidy (starts t) named
 
--- a row in use whose words are left of the lists has the words of a row that is reached, so it is that row
-pub useful-reached : (t : Table) → Tidy t → Useful (lists t) t → (r : ℕ) → Used t r → reached t r ≡ true
-useful-reached t tidy useful r p =
-    let named = starts-named t tidy in
-    let (s, e, same) = states-kept t tidy (starts t) named (useful r p) in
-    rw (same-words t tidy r s p (reached-used t tidy (starts t) named s e) (sym same)) e
+-- a row in use whose words are left of the roots' words has the words of a row that is reached from them, so it is that row
+pub useful-reached : (t : Table) → Tidy t → (roots : List ℕ) → Each (Named t) roots → Useful (map (λ n. words t n) roots) t
+    → (r : ℕ) → Used t r → reachedFrom t roots r ≡ true
+useful-reached t tidy roots named useful r p =
+    let (s, e, same) = states-kept t tidy roots named (useful r p) in
+    rw (same-words t tidy r s p (reached-used t tidy roots named s e) (sym same)) e
 
 pub useful-rows : (t : Table) → Tidy t → (ls : List Words) → Useful ls t → usedRows t ≤ need ls
 unfolding need

@@ -3,7 +3,7 @@
 use Prim.Native.Nat.{ℕ, _≤_, _<_}
 use mathlib.Core.Path.{_≡_, refl}
 use mathlib.Core.Bool.{true, or-false}
-use mathlib.Core.List.{List, [], _∷_}
+use mathlib.Core.List.{List, [], _∷_, map}
 use lib.ListN.{length}
 use Rattle.letters.specs.Each.{Each}
 use Rattle.letters.specs.Letters.{letters}
@@ -20,7 +20,7 @@ use Rattle.rows.specs.Walk.{accepts, follows}
 use Rattle.rows.specs.Words.{words, lists}
 use Rattle.rows.specs.Rules.{sound}
 use Rattle.rows.specs.Tidy.{Used, Named, Tidy}
-use Rattle.rows.specs.Reach.{reaches, reached}
+use Rattle.rows.specs.Reach.{reaches, reachedFrom, reached}
 use Rattle.rows.specs.Growth.{Useful}
 use Rattle.rows.proofs.Rules.{sound-facts, facts-sound}
 use Rattle.rows.proofs.Books.{lists-sixteen, lists-plain, lists-names, starts-named, ask-plain, next-plain, sound-reached}
@@ -57,8 +57,9 @@ row-need t tidy r named = simp or-false at (reached-need t tidy (r ∷ []) (name
 pub useful-need : (t : Table) → Tidy t → (ls : List Words) → Useful ls t → usedRows t ≤ need ls
 useful-need = useful-rows
 
--- Where they are left of the table's own lists, every row in use is reached from a start.
-pub needed-reached : (t : Table) → Tidy t → Useful (lists t) t → (r : ℕ) → Used t r → reached t r ≡ true
+-- Where they are left of the words of some rows, every row in use is reached from these rows.
+pub needed-reached : (t : Table) → Tidy t → (roots : List ℕ) → Each (Named t) roots → Useful (map (λ n. words t n) roots) t
+    → (r : ℕ) → Used t r → reachedFrom t roots r ≡ true
 needed-reached = useful-reached
 
 -- The states of a book's automaton are counted by the rows in use.

@@ -123,7 +123,8 @@ const FEW_ROWS: usize = 128;
 // No pair is settled at first.
 pub fn combine_rows(t: &mut [u16], index: &mut [u16], op: u32, p: u16, q: u16) -> Made
     requires { ⌜ Pair (now t) p q × Indexed (now t) (now index) ⌝ }
-    ensures { λ made. ⌜ Makes (rowCount (now (t .entry))) (now (t .entry)) (now (t .exit)) (combined op (words (now (t .entry)) p) (words (now (t .entry)) q)) made ⌝ }
+    ensures makes { λ made. ⌜ Makes (rowCount (now (t .entry))) (now (t .entry)) (now (t .exit)) (combined op (words (now (t .entry)) p) (words (now (t .entry)) q)) made ⌝ }
+    ensures indexed { λ _. ⌜ Indexed (now (t .exit)) (now (index .exit)) ⌝ }
 {
     if row_count(t) <= FEW_ROWS {
         let mut seen = [[0u16; MOST_ROWS]; FEW_ROWS];

@@ -1,3 +1,4 @@
--- The laws of reaching: arrays that mark rows, and how the marks spread. Assumes nothing.
+-- The laws of reaching: arrays that mark rows, how the marks spread, and how much leads to a row. Assumes nothing.
 pub mod Marking
 pub mod Spreading
+pub mod Leading

@@ -1,6 +1,6 @@
 -- Arrays that mark rows. Where rows are written to one by one, those are marked that were written to, and those that were before; what would
--- be written to number 0, which is no row, may be left out. So an array that was zeros marks the rows that pass the test of the writes, and its
--- numbers, 0 or 1, are that test's; their sum is how many pass. Assumes nothing.
+-- be written to number 0, which is no row, may be left out. So an array that was zeros marks the rows that pass the test of the writes.
+-- Assumes nothing.
 use Prim.Native.Nat.{ℕ, suc, _+_, _≤_, _<_, max}
 use native.Mathlib.Numerals.{add-one}
 use native.Mathlib.Omega.{arith}
@@ -9,9 +9,10 @@ use mathlib.Core.Path.{_≡_, refl, sym, _∙_}
 use mathlib.Core.Bool.{Bool, true, false, cond, _&&_, _||_, false≢true}
 use mathlib.Core.Logic.{inl, inr}
 use mathlib.Core.List.{List}
-use borrow.Author.Tests.{ne-eqb}
-use lib.Dec.{eqb}
-use lib.ListN.{length, getD, set, replicate, length-replicate}
+use borrow.Author.Tests.{eq-eqb, ne-eqb}
+use lib.Dec.{eqb, ltb}
+use lib.ListN.{length, getD, set, replicate, length-set, length-replicate}
+use lib.Seq.{getD-set-same, getD-set-other}
 use Rattle.letters.specs.LetterSet.{flag, countOf}
 use Rattle.letters.proofs.LetterSet.{flag-le}
 use Rattle.sets.specs.Below.{someBelow}
@@ -22,9 +23,35 @@ use Rattle.rows.specs.Skips.{NextArc}
 use Rattle.rows.proofs.Zeros.{zero-cell}
 use Rattle.rows.proofs.Facts.{row-inside, inside-row}
 use Rattle.rows.proofs.Skipping.{past}
-use Rattle.rules.specs.Pointed.{Pointed}
-use Rattle.rules.proofs.Writes.{points-nowhere, points-at-one, points-at-both}
-use Rattle.reaching.specs.Marks.{Marks, Roots, marked}
+use Rattle.reaching.specs.Marks.{Marks, Pointed, Roots, marked}
+
+-- nothing written points at no row, one write points at one, and one list of writes behind another points at the rows of both
+pub points-nowhere : {at : ℕ → Bool} {p : List ℕ} → ((s : ℕ) → at s ≡ false) → Pointed at p p
+points-nowhere none = record { long = refl; points = λ s h. rw (none s) }
+
+pub points-at-one : (p : List ℕ) (n : ℕ) → n < length p → Pointed (λ s. eqb n s) p (set p n 1)
+points-at-one p n inside =
+    record {
+      long = length-set p n 1;
+      points = λ s h.
+          elim (ℕ-discrete s n) [
+            | yes e ↦ rw (e, eq-eqb n n refl, getD-set-same p n 1 0 inside)
+            | no e ↦ rw (ne-eqb n s (λ d. e (sym d)), getD-set-other p n s 1 0 e)
+          ];
+    }
+
+pub points-at-both : {first second both : ℕ → Bool} {p q r : List ℕ}
+    → Pointed first p q → Pointed second q r → ((s : ℕ) → 0 < s → both s ≡ (first s || second s)) → Pointed both p r
+points-at-both {first} {second} {both} {p} {q} {r} one two same =
+    record {
+      long = two .long ∙ one .long;
+      points = λ s h. rw (two .points s h, one .points s h, same s h) (go (first s) (second s) (getD p s 0));
+    }
+  where
+    go : (a b : Bool) (n : ℕ) → cond b 1 (cond a 1 n) ≡ cond (a || b) 1 n
+    go true true n = refl
+    go true false n = refl
+    go false b n = refl
 
 -- what the numbers below x give is written to
 module _ (given : ℕ → ℕ) where
@@ -53,53 +80,36 @@ pub targets-past : {t : Table} {r x e : ℕ} {p q : List ℕ} → NextArc t r x 
 targets-past {t} {r} {x} {e} {p} {q} next =
     past (λ y. target t r y) (λ n. Pointed (λ s. givenBelow (λ y. target t r y) n s) p q) (given-zero (λ y. target t r y)) x e (next .from) (next .none)
 
--- a number that is 0 or 1 says whether it is 1
-flag-one : (n : ℕ) (b : Bool) → n ≡ flag b → eqb n 1 ≡ b
-flag-one n true e = rw e
-flag-one n false e = rw e
-
 module _ {t : Table} {test : ℕ → Bool} {keep : List ℕ} (m : Marks t test keep) where
-  pub mark-le : (r : ℕ) → isRow t r ≡ true → getD keep r 0 ≤ 1
-  mark-le r row = rw (m .marks r row) (flag-le (test r))
-
-  pub marked-test : (r : ℕ) → isRow t r ≡ true → marked keep r ≡ test r
-  marked-test r row = flag-one (getD keep r 0) (test r) (m .marks r row)
-
-  -- an array marks the rows that it marks
-  pub marks-itself : Marks t (λ r. marked keep r) keep
-  marks-itself = record { long = m .long; marks = λ r row. m .marks r row ∙ rw (marked-test r row) }
-
   pub marks-same : (other : ℕ → Bool) → ((r : ℕ) → isRow t r ≡ true → test r ≡ other r) → Marks t other keep
-  marks-same other same = record { long = m .long; marks = λ r row. m .marks r row ∙ rw (same r row) }
+  marks-same other same = record { long = m .long; marks = λ r row. m .marks r row ∙ same r row }
 
 -- the rows written to are marked too
-module _ {t : Table} {at : ℕ → Bool} {p q : List ℕ} (d : Pointed at p q) where
-  pub marks-more : {test : ℕ → Bool} → Marks t test p → Marks t (λ r. at r || test r) q
-  marks-more {test} m =
-      record {
-        long = rw (d .long) (m .long);
-        marks = λ r row. d .points r (row-inside t r row .0) ∙ rw (m .marks r row) (go (at r) (test r));
-      }
+module _ {at : ℕ → Bool} {p q : List ℕ} (d : Pointed at p q) where
+  pub marked-more : (r : ℕ) → 0 < r → marked q r ≡ (at r || marked p r)
+  marked-more r some = rw (d .points r some) (go (at r))
     where
-      go : (a b : Bool) → cond a 1 (flag b) ≡ flag (a || b)
-      go true b = refl
-      go false b = refl
+      go : (a : Bool) → ltb 0 (cond a 1 (getD p r 0)) ≡ (a || marked p r)
+      go true = refl
+      go false = refl
 
-  pub roots-more : Roots t p → ((r : ℕ) → isRow t r ≡ true → at r ≡ true → Used t r) → Roots t q
-  roots-more roots used =
-      let more = marks-more (roots .marks) in
+  pub roots-more : {t : Table} → Roots t p → ((r : ℕ) → isRow t r ≡ true → at r ≡ true → Used t r) → Roots t q
+  roots-more {t} roots used =
       record {
-        marks = marks-itself more;
+        long = rw (d .long) (roots .long);
         used = λ r row e.
-            elim (either (at r) (marked p r) (sym (marked-test more r row) ∙ e)) [ inl a ↦ used r row a | inr b ↦ roots .used r row b ];
+            elim (either (at r) (marked p r) (sym (marked-more r (row-inside t r row .0)) ∙ e)) [
+              | inl a ↦ used r row a
+              | inr b ↦ roots .used r row b
+            ];
       }
 
 -- no row is marked
 pub roots-none : {t : Table} {keep : List ℕ} → Marks t (λ r. false) keep → Roots t keep
-roots-none m = record { marks = marks-itself m; used = λ r row e. absurd (false≢true (sym (marked-test m r row) ∙ e)) }
+roots-none m = record { long = m .long; used = λ r row e. absurd (false≢true (sym (m .marks r row) ∙ e)) }
 
 pub zeros-mark-none : {t : Table} {n : ℕ} → rowCount t ≤ n → Marks t (λ r. false) (replicate n 0)
-zeros-mark-none {n} inside = record { long = rw (length-replicate {A = ℕ}) inside; marks = λ r row. zero-cell n r }
+zeros-mark-none {n} inside = record { long = rw (length-replicate {A = ℕ}) inside; marks = λ r row. rw (zero-cell n r) }
 
 -- n of the rows below r are marked
 pub record Counted (t : Table) (keep : List ℕ) (r n : ℕ) : Type 0 where
@@ -114,16 +124,14 @@ module _ {t : Table} {keep : List ℕ} where
   unfolding countOf
   counted-none = record { some = omega arith; near = omega arith; few = omega arith; count = refl }
 
-  pub counted-more : {r n : ℕ} → Marks t (λ s. marked keep s) keep → Counted t keep r n → r < rowCount t
-      → Counted t keep (r + 1) (n + getD keep r 0)
+  pub counted-more : {r n : ℕ} → Counted t keep r n → r < rowCount t → Counted t keep (r + 1) (n + flag (marked keep r))
   unfolding countOf
-  counted-more {r} m c inside =
-      let row = inside-row t r (c .some) inside in
+  counted-more {r} c inside =
       record {
         some = omega arith;
         near = omega arith;
-        few = omega (arith, mark-le m r row);
-        count = rw (add-one, row) (omega (arith, m .marks r row));
+        few = omega (arith, flag-le (marked keep r));
+        count = rw (add-one, inside-row t r (c .some) inside) (omega arith);
       }
 
   -- behind the last row; a table without rows has none below row 1 either

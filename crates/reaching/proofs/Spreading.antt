@@ -2,7 +2,7 @@
 -- row in use misses its turn. Then it is passed by, or its targets are marked. These are lower, so their turns come later: a row whose turn came
 -- before is marked as it was, and its targets stay marked. At the end the marked rows hold the roots and the targets of their rows, so they are
 -- the rows reached. Assumes nothing.
-use Prim.Native.Nat.{ℕ, suc, _+_, _-_, _≤_, _<_}
+use Prim.Native.Nat.{ℕ, suc, _-_, _≤_, _<_}
 use native.Mathlib.Omega.{arith}
 use native.Mathlib.Decide.{ℕ-discrete}
 use mathlib.Core.Path.{_≡_, refl, sym, _∙_, ap}
@@ -31,9 +31,8 @@ use Rattle.chains.specs.Chains.{Latest}
 use Rattle.chains.specs.Orders.{level}
 use Rattle.chains.proofs.Chains.{latest-here}
 use Rattle.chains.proofs.Levels.{used-level}
-use Rattle.rules.specs.Pointed.{Pointed}
-use Rattle.reaching.specs.Marks.{Marks, Roots, SpreadTo, Spreads, marked, left, rootsOf}
-use Rattle.reaching.proofs.Marking.{marked-test, marks-same, marks-more, roots-more, roots-none}
+use Rattle.reaching.specs.Marks.{Pointed, Marks, Roots, SpreadTo, Spreads, marked, left, rootsOf}
+use Rattle.reaching.proofs.Marking.{marked-more, marks-same, roots-more, roots-none}
 
 -- a row whose turn has come by this one had it before, or has it now
 turn-cases : (h k r s : ℕ) → r < mostRows → s < mostRows → left h r ≤ left k s → (left h (suc r) ≤ left k s) ⊎ (s ≡ r)
@@ -66,7 +65,7 @@ module _ {t : Table} (tidy : Tidy t) {r : ℕ} {p : List ℕ} (u : Used t r) (ro
 
   module _ {q : List ℕ} (m : marked p r ≡ true) (d : Pointed (λ s. pointsAt t r s) p q) where
     marked-now : (s : ℕ) → isRow t s ≡ true → marked q s ≡ (pointsAt t r s || marked p s)
-    marked-now s = marked-test (marks-more d (roots .marks)) s
+    marked-now s row = marked-more d s (row-inside t s row .0)
 
     stays : (s : ℕ) → isRow t s ≡ true → marked p s ≡ true → marked q s ≡ true
     stays s s-row e = rw (marked-now s s-row, e, or-true)
@@ -170,10 +169,13 @@ module _ {t : Table} (tidy : Tidy t) {p : List ℕ} (roots : Roots t p) where
   all-spread {q} d =
       let named = roots-named t p roots in
       let end = d .spreads (rootsOf t p) named first-turn in
-      marks-same (d .roots .marks) _ (λ r row.
-      tests-agree _ _ (end .reached r row)
-      (reached-all t tidy (rootsOf t p) named (λ s. marked q s ≡ true) (end .rooted)
-      (λ s x a m. end .before s x a m (omega (arith, tidy .lower s x a))) r))
+      record {
+        long = d .roots .long;
+        marks = λ r row.
+            tests-agree _ _ (end .reached r row)
+            (reached-all t tidy (rootsOf t p) named (λ s. marked q s ≡ true) (end .rooted)
+            (λ s x a m. end .before s x a m (omega (arith, tidy .lower s x a))) r);
+      }
 
 -- more roots reach more
 reached-more : (t : Table) → Tidy t → (ns ms : List ℕ) → Each (Named t) ns → Each (Named t) ms → ((r : ℕ) → In r ns → Used t r → In r ms)
@@ -193,7 +195,7 @@ module _ {t : Table} (tidy : Tidy t) {none p : List ℕ} (m : Marks t (λ r. fal
   starts-marked = roots-more d (roots-none m) start-used
 
   marked-start : (r : ℕ) → isRow t r ≡ true → marked p r ≡ isStart t r
-  marked-start r row = marked-test (marks-more d m) r row ∙ or-false (isStart t r)
+  marked-start r row = marked-more d r (row-inside t r row .0) ∙ rw (m .marks r row) (or-false (isStart t r))
 
   start-root : (r : ℕ) → In r (starts t) → Used t r → In r (rootsOf t p)
   start-root r i u = in-root t p r (used-row u) (marked-start r (used-row u) ∙ each-in _ each-start i)
@@ -221,6 +223,6 @@ reached-count {t} tidy {keep} m =
     count-agree (rowCount t) _ _ (λ r h. go r (isRow t r) refl)
   where
     go : (r : ℕ) (b : Bool) → isRow t r ≡ b → (b && marked keep r) ≡ reached t r
-    go r true row = marked-test m r row
+    go r true row = m .marks r row
     go r false out =
         sym (fails (reached t r) (λ e. false≢true (sym out ∙ used-row (reached-used t tidy (starts t) (starts-named t tidy) r e))))

@@ -1,25 +1,29 @@
--- An array that marks rows: number r is 1 where row r is marked, else 0. Number 0 stands for no row and says nothing. Assumes nothing.
-use Prim.Native.Nat.{ℕ, _+_, _*_, _≤_}
+-- An array that marks rows: number r is not 0 where row r is marked. Number 0 stands for no row and says nothing. Assumes nothing.
+use Prim.Native.Nat.{ℕ, _+_, _*_, _≤_, _<_}
 use mathlib.Core.Path.{_≡_}
-use mathlib.Core.Bool.{Bool, true, _&&_}
+use mathlib.Core.Bool.{Bool, true, cond, _&&_}
 use mathlib.Core.List.{List, List·Memᴰ}
-use lib.Dec.{eqb}
+use lib.Dec.{ltb}
 use lib.ListN.{length, getD}
 use Rattle.letters.specs.Each.{Each}
-use Rattle.letters.specs.LetterSet.{flag}
 use Rattle.sets.specs.Below.{those}
 use Rattle.rows.specs.Table.{Table, rowCount, mostRows, isRow, height, target}
 use Rattle.rows.specs.Tidy.{Used, Named, Arc}
 use Rattle.rows.specs.Reach.{reachedFrom}
 
+-- the array marks the row
+abbrev pub marked : List ℕ → ℕ → Bool
+marked keep r = ltb 0 (getD keep r 0)
+
 -- the array marks exactly the rows that pass the test
 pub record Marks (t : Table) (test : ℕ → Bool) (keep : List ℕ) : Type 0 where
   pub long : rowCount t ≤ length keep
-  pub marks : (r : ℕ) → isRow t r ≡ true → getD keep r 0 ≡ flag (test r)
+  pub marks : (r : ℕ) → isRow t r ≡ true → marked keep r ≡ test r
 
--- the array marks the row
-abbrev pub marked : List ℕ → ℕ → Bool
-marked keep r = eqb (getD keep r 0) 1
+-- the array after: 1 at the rows that pass the test, the others as before
+pub record Pointed (at : ℕ → Bool) (p q : List ℕ) : Type 0 where
+  pub long : length q ≡ length p
+  pub points : (s : ℕ) → 0 < s → getD q s 0 ≡ cond (at s) 1 (getD p s 0)
 
 -- the rows that the array marks
 abbrev pub rootsOf : Table → List ℕ → List ℕ
@@ -27,7 +31,7 @@ rootsOf t keep = those (rowCount t) (λ r. isRow t r && marked keep r)
 
 -- the array marks rows in use, and nothing else
 pub record Roots (t : Table) (keep : List ℕ) : Type 0 where
-  pub marks : Marks t (λ r. marked keep r) keep
+  pub long : rowCount t ≤ length keep
   pub used : (r : ℕ) → isRow t r ≡ true → marked keep r ≡ true → Used t r
 
 -- the rows in the order in which their targets are marked: by falling height, and those of one height by falling number

@@ -20,7 +20,7 @@ fn spread_row(t: &[u16], r: usize, keep: &mut [u16])
     requires { ⌜ Tidy (now t) × Roots (now t) (now keep) × Used (now t) r ⌝ }
     ensures { λ _. ⌜ Spreads (now (t .entry)) (left (height (now (t .entry)) r) (suc r)) (left (height (now (t .entry)) r) r) (now (keep .entry)) (now (keep .exit)) ⌝ }
 {
-    if keep[r] != 1 {
+    if keep[r] == 0 {
         return;
     }
     mark_targets(t, r, keep);

@@ -1,6 +1,6 @@
 // Rule 3: "In a row in use every target is 0 or a row in use; the height is 0 if there is no target,
 // else one more than the greatest height among its targets, and at most 24; number 39 is 0." Where
-// it holds, an array says which rows are pointed at, and the index has the key of each row in use.
+// it holds, an array says how many arcs lead to each row, and the index has the key of each row in use.
 use index::keep_key;
 use index::key_from;
 use index::mixed;
@@ -15,17 +15,19 @@ use rows::mark;
 use rows::next_arc;
 use rows::row_count;
 use rows::target;
-ghost use Prim.Native.Nat.{suc, _≤_, _<_};
+ghost use Prim.Native.Nat.{suc, _*_, _≤_, _<_};
 ghost use mathlib.Core.Path.{_≡_};
 ghost use mathlib.Core.Bool.{_&&_};
 ghost use lib.Dec.{eqb};
-ghost use lib.ListN.{length};
+ghost use lib.ListN.{length, getD};
+ghost use Rattle.letters.specs.Letters.{letters};
+ghost use Rattle.letters.specs.LetterSet.{flag};
 ghost use Rattle.rows.specs.Table.{rowCount, mostRows, inUse};
-ghost use Rattle.rows.specs.Rules.{ifUsed, arcsOk, pointsAt, isTarget, rule3};
+ghost use Rattle.rows.specs.Rules.{ifUsed, arcsOk, rule3};
 ghost use Rattle.rules.specs.Asked.{asks};
+ghost use Rattle.index.specs.Arcs.{arcsFrom, arcsOf, arcsTo, Adds, Few};
 ghost use Rattle.index.specs.Index.{Keyed};
-ghost use Rattle.rules.specs.Pointed.{KeyedIf};
-ghost use Rattle.rules.specs.Pointed.{Pointed, Tested, pointsFrom};
+ghost use Rattle.rules.specs.Counted.{KeyedIf, Tested};
 
 // What a target asks of the height of its row, or that it is neither 0 nor a row in use.
 pub enum Asked {
@@ -33,11 +35,11 @@ pub enum Asked {
     Broken,
 }
 
-// What the target asks; a row in use is marked as pointed at.
-fn follow(t: &[u16], n: usize, pointed: &mut [u16]) -> Asked
-    requires { ⌜ rowCount (now t) ≤ length (now pointed) ⌝ }
+// What the target asks; an arc to a row in use is counted.
+fn follow(t: &[u16], n: usize, arcs: &mut [u16]) -> Asked
+    requires { ⌜ (rowCount (now t) ≤ length (now arcs)) × (0 < n → getD (now arcs) n 0 < mostRows * letters) ⌝ }
     ensures asked { λ r. ⌜ r ≡ asks (now (t .entry)) n ⌝ }
-    ensures marked { λ r. ⌜ Pointed (λ s. inUse (now (t .entry)) n && eqb n s) (now (pointed .entry)) (now (pointed .exit)) ⌝ }
+    ensures counted { λ r. ⌜ Adds (λ s. flag (inUse (now (t .entry)) n && eqb n s)) (now (arcs .entry)) (now (arcs .exit)) ⌝ }
 {
     if n == 0 {
         return Asked::Height(0);
@@ -45,14 +47,14 @@ fn follow(t: &[u16], n: usize, pointed: &mut [u16]) -> Asked
     if !in_use(t, n) {
         return Asked::Broken;
     }
-    pointed[n] = 1;
+    arcs[n] += 1;
     Asked::Height(height(t, n) as usize + 1)
 }
 
 // One row in use.
-fn arcs_ok(t: &[u16], r: usize, pointed: &mut [u16], index: &mut [u16]) -> bool
-    requires { ⌜ (r < rowCount (now t)) × (rowCount (now t) ≤ length (now pointed)) × (rowCount (now t) ≤ mostRows) × Keyed (now t) r (now index) ⌝ }
-    ensures tested { λ b. ⌜ Tested (arcsOk (now (t .entry)) r) (λ s. pointsAt (now (t .entry)) r s) (now (pointed .entry)) (now (pointed .exit)) b ⌝ }
+fn arcs_ok(t: &[u16], r: usize, arcs: &mut [u16], index: &mut [u16]) -> bool
+    requires { ⌜ (r < rowCount (now t)) × (rowCount (now t) ≤ length (now arcs)) × (rowCount (now t) ≤ mostRows) × Keyed (now t) r (now index) × Few (r * letters) (now arcs) ⌝ }
+    ensures tested { λ b. ⌜ Tested (arcsOk (now (t .entry)) r) (λ s. arcsFrom (now (t .entry)) r letters s) (now (arcs .entry)) (now (arcs .exit)) b ⌝ }
     ensures keyed { λ b. ⌜ KeyedIf b (now (t .entry)) (suc r) (now (index .exit)) ⌝ }
 {
     let mut top = 0;
@@ -60,7 +62,7 @@ fn arcs_ok(t: &[u16], r: usize, pointed: &mut [u16], index: &mut [u16]) -> bool
     let mut x = next_arc(t, r, 0);
     while x < LETTERS {
         let n = target(t, r, x);
-        let Asked::Height(h) = follow(t, n as usize, pointed) else {
+        let Asked::Height(h) = follow(t, n as usize, arcs) else {
             return false;
         };
         top = higher(top, h);
@@ -78,26 +80,26 @@ fn arcs_ok(t: &[u16], r: usize, pointed: &mut [u16], index: &mut [u16]) -> bool
 }
 
 // One row: a free one passes.
-fn row_ok(t: &[u16], r: usize, pointed: &mut [u16], index: &mut [u16]) -> bool
-    requires { ⌜ (rowCount (now t) ≤ length (now pointed)) × (rowCount (now t) ≤ mostRows) × Keyed (now t) r (now index) ⌝ }
-    ensures tested { λ b. ⌜ Tested (ifUsed (now (t .entry)) r (arcsOk (now (t .entry)) r)) (λ s. pointsFrom (now (t .entry)) r s) (now (pointed .entry)) (now (pointed .exit)) b ⌝ }
+fn row_ok(t: &[u16], r: usize, arcs: &mut [u16], index: &mut [u16]) -> bool
+    requires { ⌜ (rowCount (now t) ≤ length (now arcs)) × (rowCount (now t) ≤ mostRows) × Keyed (now t) r (now index) × Few (r * letters) (now arcs) ⌝ }
+    ensures tested { λ b. ⌜ Tested (ifUsed (now (t .entry)) r (arcsOk (now (t .entry)) r)) (λ s. arcsOf (now (t .entry)) r s) (now (arcs .entry)) (now (arcs .exit)) b ⌝ }
     ensures keyed { λ b. ⌜ KeyedIf b (now (t .entry)) (suc r) (now (index .exit)) ⌝ }
 {
     if !in_use(t, r) {
         return true;
     }
-    arcs_ok(t, r, pointed, index)
+    arcs_ok(t, r, arcs, index)
 }
 
-pub fn rule3(t: &[u16], pointed: &mut [u16], index: &mut [u16]) -> bool
-    requires { ⌜ (rowCount (now t) ≤ length (now pointed)) × (rowCount (now t) ≤ mostRows) × Keyed (now t) 0 (now index) ⌝ }
-    ensures tested { λ b. ⌜ Tested (rule3 (now (t .entry))) (λ s. isTarget (now (t .entry)) s) (now (pointed .entry)) (now (pointed .exit)) b ⌝ }
+pub fn rule3(t: &[u16], arcs: &mut [u16], index: &mut [u16]) -> bool
+    requires { ⌜ (rowCount (now t) ≤ length (now arcs)) × (rowCount (now t) ≤ mostRows) × Keyed (now t) 0 (now index) × Few 0 (now arcs) ⌝ }
+    ensures tested { λ b. ⌜ Tested (rule3 (now (t .entry))) (λ s. arcsTo (now (t .entry)) s) (now (arcs .entry)) (now (arcs .exit)) b ⌝ }
     ensures keyed { λ b. ⌜ KeyedIf b (now (t .entry)) (rowCount (now (t .entry))) (now (index .exit)) ⌝ }
 {
     let k = row_count(t);
     let mut r = 1;
     while r < k {
-        if !row_ok(t, r, pointed, index) {
+        if !row_ok(t, r, arcs, index) {
             return false;
         }
         r += 1;

@@ -7,9 +7,11 @@ use super::pointed::rule5;
 use super::twins::rule6;
 use index::INDEX;
 use index::index_rows;
+use index::keep_arcs;
 use rows::MOST_ROWS;
 use rows::length_ok;
 use rows::room;
+use rows::row_count;
 use rows::used_rows;
 ghost use mathlib.Core.Path.{_≡_};
 ghost use mathlib.Core.Bool.{true};
@@ -39,16 +41,17 @@ pub fn sound_indexed(t: &[u16], index: &mut [u16]) -> bool
     if !rule2(t) {
         return false;
     }
-    let mut pointed = [0u16; MOST_ROWS];
-    if !rule3(t, &mut pointed, index) {
+    let mut arcs = [0u16; MOST_ROWS];
+    if !rule3(t, &mut arcs, index) {
         return false;
     }
     if !rule4(t) {
         return false;
     }
-    if !rule5(t, &pointed) {
+    if !rule5(t, &arcs) {
         return false;
     }
+    keep_arcs(&arcs, row_count(t), index);
     index_rows(t, index);
     if !rule6(t, index) {
         return false;

@@ -1,11 +1,11 @@
 -- The laws of what is said of the numbers below n and of what they give: the tests pass at all of them, or at one; what stands in the list of
 -- what they give stands in what one of them gives, and lists of words that rise, one before the other, give a list that rises; its length is
 -- the sum of their lengths, and what each gives stands behind as many as the lower ones give; the greatest is at least each, and at most what
--- is at least each; a sum holds the sum of fewer, and is the same where the others give 0; and the list of one thing of each has them in their
--- places. Assumes nothing.
-use Prim.Native.Nat.{ℕ, zero, suc, _+_, _≤_, _<_}
+-- is at least each; a sum holds the sum of fewer, is the same where the others give 0, and differs by one number where only one gives another; and
+-- the list of one thing of each has them in their places. Assumes nothing.
+use Prim.Native.Nat.{ℕ, zero, suc, _+_, _*_, _≤_, _<_}
 use native.Mathlib.Omega.{arith}
-use native.Mathlib.Decide.{ℕ-discrete}
+use native.Mathlib.Decide.{ℕ-discrete, decLt}
 use mathlib.Core.Path.{_≡_, refl, sym, _∙_}
 use mathlib.Core.Bool.{Bool, true, false, _&&_, or-true, and-eq-true-iff, false≢true}
 use mathlib.Core.Logic.{inl, inr}
@@ -132,7 +132,32 @@ unfolding total
 total-agree zero f g e = refl
 total-agree (suc n) f g e = rw (total-agree n f g (λ i h. e i (omega arith)), e n (omega arith))
 
+-- where only one number gives another, the sums differ by that one
+pub total-but-one : (n i : ℕ) (f g : ℕ → ℕ) → i < n → ((j : ℕ) → (j ≡ i → ⊥) → f j ≡ g j) → total n f + g i ≡ total n g + f i
+unfolding total
+total-but-one zero i f g h same = absurd (omega arith)
+total-but-one (suc n) i f g h same =
+    elim (ℕ-discrete i n) [
+      | yes e ↦ rw e (omega (arith, total-agree n f g (λ j below. same j (λ d. omega arith))))
+      | no e ↦ omega (arith, total-but-one n i f g (omega arith) same, same n (λ d. e (sym d)))
+    ]
+
 module _ (given : ℕ → ℕ) where
+  pub total-most : (most n : ℕ) → ((i : ℕ) → given i ≤ most) → total n given ≤ n * most
+  unfolding total
+  total-most most zero h = omega arith
+  total-most most (suc n) h = omega (arith, total-most most n h, h n)
+
+  -- what is given is given at some number
+  pub total-some : (n : ℕ) → 0 < total n given → (i : ℕ) × (i < n) × (0 < given i)
+  unfolding total
+  total-some zero h = absurd (omega arith)
+  total-some (suc n) h =
+      elim (decLt 0 (given n)) [
+        | yes some ↦ (n, omega arith, some)
+        | no none ↦ let (i, below, some) = total-some n (omega arith) in (i, omega arith, some)
+      ]
+
   pub total-more : (n k : ℕ) → n ≤ k → total n given ≤ total k given
   unfolding total
   total-more n zero h = let e : n ≡ 0 = omega arith in rw e (omega arith)

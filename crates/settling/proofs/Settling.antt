@@ -3,39 +3,47 @@
 -- the test against the room is the test of the lists. Where it passes, the swept table is a sound book with the new lists; where it fails, the
 -- old table is swept, and that gives the book from which it was grown. A list without names always fits: what is reached without the start is
 -- in use, and these rows fit. Assumes nothing.
-use Prim.Native.Nat.{ℕ, _+_, _*_, _≤_, _<_}
+use Prim.Native.Nat.{ℕ, _+_, _*_, _/_, _≤_, _<_}
 use native.Mathlib.Omega.{arith}
 use native.Mathlib.Decide.{ℕ-discrete}
 use mathlib.Core.Path.{_≡_, refl, sym, _∙_, ap}
-use mathlib.Core.Bool.{Bool, true, false, false≢true}
-use mathlib.Core.List.{[]}
+use mathlib.Core.Bool.{Bool, true, false, cond, false≢true}
+use mathlib.Core.Logic.{inl, inr}
+use mathlib.Core.List.{List, [], _∷_, List·Memᴰ·eq-of-singleton}
 use lib.Dec.{leb}
 use lib.ListN.{length, getD, length-set}
 use lib.Seq.{ext-getD, getD-set-same, getD-set-other, set-getD, set-set}
 use borrow.Author.Tests.{leb-true, le-leb}
+use Rattle.letters.specs.Letters.{letters}
+use Rattle.letters.specs.Each.{Each}
 use Rattle.letters.specs.LetterSet.{countOf}
-use Rattle.letters.proofs.LetterSet.{count-agree, count-more}
+use Rattle.letters.proofs.LetterSet.{count-more}
+use Rattle.sets.specs.Below.{total}
 use Rattle.sets.specs.Sets.{member}
-use Rattle.sets.proofs.Below.{tests-agree}
+use Rattle.sets.proofs.Membership.{In, here, there, cons-in}
+use Rattle.sets.proofs.Below.{total-agree, over-in}
 use Rattle.model.specs.Lists.{missions, listOf, replace}
 use Rattle.model.proofs.Lists.{replace-same, replace-other}
-use Rattle.rows.specs.Table.{Table, width, rowCount, start, starts, mark, target, inUse, usedRows, room}
+use Rattle.rows.specs.Table.{Table, width, rowCount, start, starts, mark, target, inUse, room}
 use Rattle.rows.specs.Words.{words, lists}
 use Rattle.rows.specs.Rules.{sound}
-use Rattle.rows.specs.Tidy.{Used, Tidy}
-use Rattle.rows.specs.Reach.{reached, swept}
-use Rattle.rows.specs.Growth.{Grown, Useful}
-use Rattle.rows.proofs.Facts.{row-inside, in-use-used, used-in-use}
-use Rattle.rows.proofs.Cells.{same-mark}
+use Rattle.rows.specs.Tidy.{Used, Named, Arc, Tidy}
+use Rattle.rows.specs.Reach.{reachedFrom, reached}
+use Rattle.rows.specs.Growth.{Grown}
+use Rattle.rows.proofs.Facts.{row-inside, used-in-use}
+use Rattle.rows.proofs.Cells.{same-mark, same-target}
 use Rattle.rows.proofs.Rules.{sound-facts}
 use Rattle.rows.proofs.Words.{words-none, mark-word}
-use Rattle.rows.proofs.Reach.{reached-used}
-use Rattle.rows.proofs.Books.{lists-sixteen, list-names, starts-named}
-use Rattle.rows.proofs.Growth.{words-same, lists-kept, grown-self}
-use Rattle.minimal.proofs.Theorems.{starts-need, needed-reached}
+use Rattle.rows.proofs.Reach.{reached-root, reached-arc, reached-all, reached-used}
+use Rattle.rows.proofs.Books.{start-in, start-named, lists-sixteen, list-names, starts-named}
+use Rattle.rows.proofs.Growth.{words-same, lists-kept}
+use Rattle.index.specs.Arcs.{arcsOf, arcsTo}
+use Rattle.index.specs.Index.{ArcsAt}
+use Rattle.reaching.specs.Leads.{ReachedWith}
+use Rattle.minimal.proofs.Theorems.{starts-need}
 use Rattle.settling.specs.Settled.{withStart, Startable, fits, Settles, Changed}
 use Rattle.settling.proofs.Parts.{Part, part-tidy}
-use Rattle.settling.proofs.Swept.{only-length, swept-back, swept-grown, swept-lists, swept-sound}
+use Rattle.settling.proofs.Swept.{only-length, swept-grown, swept-lists, swept-sound}
 
 pub no-row-startable : (t : Table) → Startable t 0
 unfolding member
@@ -149,29 +157,71 @@ module _ (t : Table) (m r : ℕ) (tidy : Tidy t) (below : m < missions) where
       → leb (countOf (rowCount v) (λ s. reached v s)) (room v) ≡ fits t m (words t r)
   start-says startable same = rw same (start-fits startable)
 
-  -- where every row in use is needed with the new list, all of them are reached: nothing is to be freed, and they are the rows to count
-  module _ (startable : Startable t r) (useful : Useful (replace (lists t) m (words t r)) t) where
+  -- what is reached from the starts and the new row is reached from the new starts and the old one
+  module _ (startable : Startable t r) where
     abbrev v : Table
     v = withStart t m r
 
     neat : Tidy v
     neat = start-tidy startable
 
-    all-reached : (s : ℕ) → Used v s → reached v s ≡ true
-    all-reached =
-        needed-reached v neat (λ s p. rw (start-lists, start-words t m r below s) (useful s (used-before t m r below s p)))
+    abbrev roots : List ℕ
+    roots = start t m ∷ starts v
 
-    in-use-reached : (s : ℕ) → inUse t s ≡ reached v s
-    in-use-reached s =
-        tests-agree (inUse t s) (reached v s) (λ e. all-reached s (used-after t m r below s (in-use-used t s e)))
-        (λ e. used-in-use (used-before t m r below s (reached-used v neat (starts v) (starts-named v neat) s e)))
+    pub old-named : Named (withStart t m r) (start t m)
+    old-named some = used-after t m r below (start t m) (start-named t tidy m below some)
 
-    pub useful-fits : leb (usedRows t) (room t) ≡ fits t m (words t r)
-    useful-fits =
-        rw (count-agree (rowCount t) _ _ (λ s h. in-use-reached s)) (rw (start-long t m r below) at (start-fits startable))
+    roots-named : Each (Named v) roots
+    roots-named = (old-named, starts-named v neat)
 
-    pub useful-swept : swept (withStart t m r) ≡ withStart t m r
-    useful-swept = swept-back v v neat all-reached (grown-self v)
+    pub start-reached : ReachedWith t r → ReachedWith (withStart t m r) (start t m)
+    start-reached all s p =
+        reached-all t tidy (r ∷ starts t) (startable .named, starts-named t tidy) (λ s. reachedFrom v roots s ≡ true) root step s
+        (all s (used-before t m r below s p))
+      where
+        old-root : (n : ℕ) → In n (starts t) → In n roots
+        old-root n i =
+            let (k, h, j) = over-in (λ k. start t k ∷ []) missions i in
+            let same : n ≡ start t k = List·Memᴰ·eq-of-singleton j in
+            elim (ℕ-discrete k m) [
+              | yes e ↦ rw (same ∙ ap (λ (k : ℕ). start t k) e) (here refl)
+              | no e ↦ there {xs = starts v} (rw (same, ← (getD-set-other t m k r 0 e)) (start-in v k h))
+            ]
+
+        in-roots : (n : ℕ) → In n (r ∷ starts t) → In n roots
+        in-roots n i =
+            elim (cons-in i) [
+              | inl e ↦ there {xs = starts v} (rw (e ∙ sym start-same) (start-in v m below))
+              | inr j ↦ old-root n j
+            ]
+
+        root : (n : ℕ) → In n (r ∷ starts t) → Used t n → reachedFrom v roots n ≡ true
+        root n i u = reached-root v neat roots roots-named n (in-roots n i) (used-after t m r below n u)
+
+        step : (s x : ℕ) → Arc t s x → reachedFrom v roots s ≡ true → reachedFrom v roots (target t s x) ≡ true
+        step s x a e =
+            let same : target v s x ≡ target t s x = same-target t v s (λ i h. start-cell t m r below s i (a .used .positive)) x (a .letter) in
+            let arc : Arc v s x = record { used = used-after t m r below s (a .used); letter = a .letter; there = rw same (a .there) } in
+            rw same at (reached-arc v neat roots roots-named s x e arc)
+
+  -- and as many arcs lead to each row
+  arcs-same : (s : ℕ) → arcsTo (withStart t m r) s ≡ arcsTo t s
+  arcs-same s =
+      total-agree (rowCount (withStart t m r)) _ _ (λ q h. same q)
+      ∙ ap (λ (n : ℕ). total (n / width) (λ q. arcsOf t q s)) (start-long t m r below)
+    where
+      same : (q : ℕ) → arcsOf (withStart t m r) q s ≡ arcsOf t q s
+      same q =
+          elim (ℕ-discrete q 0) [
+            | yes e ↦ rw e
+            | no e ↦
+                rw (start-long t m r below, start-mark t m r below q (omega arith))
+                (ap (λ (n : ℕ). cond (inUse t q) n 0) (total-agree letters _ _ (λ y h.
+                rw (same-target t (withStart t m r) q (λ i g. start-cell t m r below q i (omega arith)) y h))))
+          ]
+
+  pub start-arcs : (index : List ℕ) → ArcsAt t index → ArcsAt (withStart t m r) index
+  start-arcs index at s some inside = at s some (rw (start-long t m r below) at inside) ∙ sym (arcs-same s)
 
 pub clear-fits : (t : Table) → sound t ≡ true → (m : ℕ) → m < missions → fits t m [] ≡ true
 clear-fits t e m below =

@@ -14,8 +14,9 @@ use borrow.Author.Tests.{eq-eqb, ne-eqb, le-leb, lt-leb}
 use Rattle.rows.specs.Table.{Table, width, rowCount}
 use Rattle.rows.specs.Reach.{onlyRows}
 use Rattle.rows.proofs.Facts.{inside-row}
+use Rattle.index.specs.Arcs.{Arcs}
+use Rattle.index.specs.Index.{Takes, ArcsAt}
 use Rattle.reaching.specs.Marks.{Marks, marked}
-use Rattle.reaching.proofs.Marking.{marked-test}
 use Rattle.settling.proofs.Swept.{only-length, only-head, only-behind}
 
 -- what holds of every state row that begins in the table
@@ -140,15 +141,13 @@ module _ (t : Table) (keep : List ℕ) where
   stays-done v r whole past now =
       now ∙ only-agree t (λ s. stays keep r s) (λ s. marked keep s) (λ s some inside. rw (lt-leb r s (omega arith)))
 
--- the test of a number of rows against the room
-pub too-many : (a b n k : ℕ) → n ≡ a → k ≡ b → k < n → false ≡ leb a b
-too-many a b n k e d h = rw (← e, ← d) (sym (lt-leb n k h))
-
-pub enough : (a b n k : ℕ) → n ≡ a → k ≡ b → n ≤ k → true ≡ leb a b
-enough a b n k e d h = rw (← e, ← d) (sym (le-leb n k h))
-
 -- marking the rows that pass a test and keeping the marked ones keeps those that pass
 pub marks-only : (t : Table) (test : ℕ → Bool) (keep : List ℕ) → length t ≡ rowCount t * width → Marks t test keep
     → onlyRows t (λ r. marked keep r) ≡ onlyRows t test
 marks-only t test keep whole marks =
-    only-agree t (λ r. marked keep r) test (λ r some inside. marked-test marks r (inside-row t r some (omega arith)))
+    only-agree t (λ r. marked keep r) test (λ r some inside. marks .marks r (inside-row t r some (omega arith)))
+
+-- the arcs that are taken out of the index are those that lead to each row
+pub taken-arcs : {t : Table} {n : ℕ} {index arcs : List ℕ} → ArcsAt t index → Takes index n arcs → n ≡ rowCount t → Arcs t arcs
+taken-arcs at takes all =
+    record { long = omega (arith, takes .long); counts = λ s some inside. takes .taken s (omega arith) ∙ at s some inside }

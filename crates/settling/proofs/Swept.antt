@@ -169,24 +169,26 @@ module _ (t : Table) (tidy : Tidy t) where
         fits = omega (arith, swept-used, only-length t (λ r. reached t r));
       })
 
--- what is grown from a tidy table whose rows in use are all reached is swept back to it
-pub swept-back : (t u : Table) → Tidy t → ((r : ℕ) → Used t r → reached t r ≡ true) → Grown t u → swept u ≡ t
-swept-back t u tidy all grown = ext-getD 0 (swept u) t (long ∙ grown .long) cell
+pub swept-grown : (t u : Table) → sound t ≡ true → Grown t u → swept u ≡ t
+swept-grown t u e grown = ext-getD 0 (swept u) t (long ∙ grown .long) cell
   where
     long : length (swept u) ≡ length u
     long = only-length u (λ r. reached u r)
 
+    facts : Sound t
+    facts = sound-facts t e
+
     row : (r i : ℕ) → 0 < r → r < rowCount t → i < width → getD (swept u) (r * width + i) 0 ≡ getD t (r * width + i) 0
     row r i some below h =
         only-row u (λ r. reached u r) r i some (rw (grown .long) below) h
-        ∙ rw (reached-kept t u grown tidy r)
+        ∙ rw (reached-kept t u grown (facts .tidy) r)
         (elim (ℕ-discrete (mark t r) 0) [
           | yes free ↦
-              rw (fails (reached t r) (λ d. omega (arith, reach-used t tidy r d .marked)))
-              (sym (tidy .zeros r i some below free h))
+              rw (fails (reached t r) (λ d. omega (arith, reach-used t (facts .tidy) r d .marked)))
+              (sym (facts .tidy .zeros r i some below free h))
           | no used ↦
               let p : Used t r = record { positive = some; inside = below; marked = omega arith } in
-              rw (all r p) (grown .kept r i p h)
+              rw (sound-reached t facts r p) (grown .kept r i p h)
         ])
 
     cell : (j : ℕ) → j < length (swept u) → getD (swept u) j 0 ≡ getD t j 0
@@ -195,8 +197,5 @@ swept-back t u tidy all grown = ext-getD 0 (swept u) t (long ∙ grown .long) ce
           | yes h ↦ only-head u (λ r. reached u r) j h (rw long at inside) ∙ grown .head j h
           | no h ↦
               let split : j ≡ j / width * width + j % width = omega arith in
-              rw split (row (j / width) (j % width) (omega arith) (omega (arith, long, grown .long, tidy .whole)) (omega arith))
+              rw split (row (j / width) (j % width) (omega arith) (omega (arith, long, grown .long, facts .tidy .whole)) (omega arith))
         ]
-
-pub swept-grown : (t u : Table) → sound t ≡ true → Grown t u → swept u ≡ t
-swept-grown t u e = let facts = sound-facts t e in swept-back t u (facts .tidy) (sound-reached t facts)

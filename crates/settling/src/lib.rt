@@ -5,5 +5,4 @@ mod settles;
 mod sweeps;
 
 pub use settles::settle;
-pub use settles::settle_useful;
 pub use sweeps::sweep;

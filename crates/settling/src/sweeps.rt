@@ -1,6 +1,8 @@
 // Freeing the rows that no start reaches. "Free rows count again".
+use index::take_arcs;
 use reaching::count_marked;
 use reaching::mark_reached;
+use reaching::mark_without;
 use rows::MOST_ROWS;
 use rows::WIDTH;
 use rows::room;
@@ -11,9 +13,11 @@ ghost use mathlib.Core.Bool.{true, not, _||_};
 ghost use lib.Dec.{eqb};
 ghost use lib.ListN.{length};
 ghost use Rattle.rows.specs.Table.{width, rowCount, isRow};
-ghost use Rattle.rows.specs.Tidy.{Tidy};
+ghost use Rattle.rows.specs.Tidy.{Named, Tidy};
 ghost use Rattle.rows.specs.Reach.{onlyRows, swept};
+ghost use Rattle.index.specs.Index.{indexLength, ArcsAt};
 ghost use Rattle.reaching.specs.Marks.{marked};
+ghost use Rattle.reaching.specs.Leads.{ReachedWith};
 ghost use Rattle.settling.specs.Settled.{SweptIf};
 
 // "a free row is forty zeros".
@@ -33,7 +37,7 @@ fn sweep_row(t: &mut [u16], r: usize, keep: &[u16])
     requires { ⌜ (isRow (now t) r ≡ true) × (rowCount (now t) ≤ length (now keep)) ⌝ }
     ensures { λ _. ⌜ now (t .exit) ≡ onlyRows (now (t .entry)) (λ s. not (eqb s r) || marked (now (keep .entry)) s) ⌝ }
 {
-    if keep[r] == 1 {
+    if keep[r] != 0 {
         return;
     }
     free_row(t, r);
@@ -61,13 +65,15 @@ pub fn sweep(t: &mut [u16])
     sweep_rows(t, &keep);
 }
 
-// Frees the rows that are not reached, if those that are fit into the room; says whether they do.
-pub fn sweep_if_fits(t: &mut [u16]) -> bool
-    requires { ⌜ Tidy (now t) ⌝ }
+// Frees the rows that are not reached, if those that are fit into the room; says whether they do. Every row in use
+// is reached from the starts or from one row more, and the index knows the arcs that lead to each row.
+pub fn sweep_if_fits(t: &mut [u16], index: &[u16], more: u16) -> bool
+    requires { ⌜ Tidy (now t) × Named (now t) more × ReachedWith (now t) more × (length (now index) ≡ indexLength) × ArcsAt (now t) (now index) ⌝ }
     ensures { λ done. ⌜ SweptIf (now (t .entry)) (now (t .exit)) done ⌝ }
 {
     let mut keep = [0u16; MOST_ROWS];
-    mark_reached(t, &mut keep);
+    take_arcs(index, row_count(t), &mut keep);
+    mark_without(t, more, &mut keep);
     if room(t) < count_marked(t, &keep) {
         return false;
     }

@@ -9,7 +9,7 @@ use Rattle.building.proofs.groups.build_list.Tie as tie
 returns : tie.Need-returns
 returns c =
     let start = c .before .before .before .before in
-    rw (no-names (start .args .list .now) 0 (omega arith)) (none-built _ (start .pre .0))
+    (rw (no-names (start .args .list .now) 0 (omega arith)) (none-built _ (start .pre .0)), start .pre .1)
 
 build-requires : tie.Need-build-requires
 build-requires c κs =
@@ -30,7 +30,9 @@ same-length-2 : tie.Need-same-length-2
 same-length-2 c = search needs
 
 returns-2 : tie.Need-returns-2
-returns-2 c = rw (c .enum-told .given .1) at (c .before .before .before .before .before .before .build .ensures .0)
+returns-2 c =
+    let called = c .before .before .before .before .before .before in
+    (rw (c .enum-told .given .1) at (called .build .ensures .0), called .build .ensures .1)
 
 same-length-3 : tie.Need-same-length-3
 same-length-3 c = search needs
@@ -39,7 +41,9 @@ same-length-4 : tie.Need-same-length-4
 same-length-4 c = search needs
 
 returns-3 : tie.Need-returns-3
-returns-3 c = (rw (c .before .n .given .1) at (c .before .before .before .before .before .before .before .build .ensures .0)) .made
+returns-3 c =
+    let called = c .before .before .before .before .before .before .before in
+    ((rw (c .before .n .given .1) at (called .build .ensures .0)) .made, called .build .ensures .1)
 
 pub build-list-spec : {M : Type 1} → statement M
 build-list-spec =

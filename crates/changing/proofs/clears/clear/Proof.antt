@@ -1,4 +1,4 @@
--- `clear` meets its promise: its first tests refuse it, or leave a sound book and a mission. Assumes nothing.
+-- `clear` meets its promise: its first tests refuse it, or leave a sound book with its index, and a mission. Assumes nothing.
 use mathlib.Core.Path.{refl}
 use mathlib.Core.Bool.{true}
 use borrow.Author.Needs.{needs}
@@ -9,16 +9,24 @@ use Rattle.changing.proofs.Changes.{refused-changes}
 use Rattle.changing.proofs.clears.clear.Statement.{statement}
 use Rattle.changing.proofs.clears.clear.Tie as tie
 
-admit-requires : tie.Need-admit-requires
-admit-requires c κs = search needs
+slice-aggregate-admit-indexed : tie.Need-slice-aggregate-admit-indexed
+slice-aggregate-admit-indexed c = search needs
+
+admit-indexed-requires : tie.Need-admit-indexed-requires
+admit-indexed-requires c κs = search needs
 
 enum-told : tie.Need-enum-told
 enum-told c = search needs
 
+slice-aggregate-clear-list : tie.Need-slice-aggregate-clear-list
+slice-aggregate-clear-list c = search needs
+
 clear-list-requires : tie.Need-clear-list-requires
 clear-list-requires c κs =
-    let fine = admitted _ _ true NotSound (c .before .enum-told .given .1) (c .before .before .before .admit .ensures) in
-    (fine .sound, fine .mission)
+    let tested = c .before .before .before .before .before in
+    let told = c .before .before .enum-told .given .1 in
+    let fine = admitted _ _ true NotSound told (tested .admit-indexed .ensures .0) in
+    (fine .sound, tested .admit-indexed .ensures .1 told, fine .mission)
 
 enum-known-r : tie.Need-enum-known-r
 enum-known-r c = search needs
@@ -34,17 +42,19 @@ same-length-2 c = search needs
 
 returns-2 : tie.Need-returns-2
 returns-2 c =
-    let tested = c .before .before .before in
-    let args = tested .before .before .before .args in
+    let tested = c .before .before .before .before in
+    let args = tested .before .before .before .before .args in
     refused-changes _ _ _
-    (refused-first (args .t .now) (args .m) true NotSound (clear (args .m)) 3 refl (c .before .r .given .1) (tested .admit .ensures))
+    (refused-first (args .t .now) (args .m) true NotSound (clear (args .m)) 3 refl (c .before .r .given .1) (tested .admit-indexed .ensures .0))
 
 pub clear-spec : {M : Type 1} → statement M
 clear-spec =
     tie.close
     (tie.spec
-    admit-requires
+    slice-aggregate-admit-indexed
+    admit-indexed-requires
     enum-told
+    slice-aggregate-clear-list
     clear-list-requires
     enum-known-r
     same-length

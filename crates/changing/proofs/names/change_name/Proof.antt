@@ -4,6 +4,7 @@ use borrow.Author.Needs.{needs}
 use Rattle.letters.proofs.Words.{name-parts}
 use Rattle.rows.proofs.Rules.{sound-facts, sound-length, start-inside}
 use Rattle.rows.proofs.Books.{start-named}
+use Rattle.changing.proofs.Reached.{made-reached}
 use Rattle.changing.proofs.Outcomes.{never-full, path-startable, path-settled}
 use Rattle.changing.proofs.names.change_name.Statement.{statement}
 use Rattle.changing.proofs.names.change_name.Tie as tie
@@ -30,12 +31,17 @@ enum-known-n c = search needs
 
 settle-requires : tie.Need-settle-requires
 settle-requires c κs =
-    let called = c .before .before .before .before .before .before .before .before in
+    let called = c .before .before .before .before .before .before .before .before .before in
     let started = called .before .before .before in
     let first = begin started in
     let (given, _, _) = first .pre in
-    let made = rw (c .before .before .n .given .1, started .start .ensures) at (called .path .ensures .0) in
-    (made .grows .tidy, omega (arith, given .mission), path-startable _ (given .sound) _ (given .mission) (first .args .on) _ (given .named) _ _ _ made)
+    let made = rw (c .before .before .before .n .given .1, started .start .ensures) at (called .path .ensures .0) in (
+      made .grows .tidy,
+      called .path .ensures .1,
+      omega (arith, given .mission),
+      path-startable _ (given .sound) _ (given .mission) (first .args .on) _ (given .named) _ _ _ made,
+      made-reached _ (given .sound) made,
+    )
 
 settled-requires : tie.Need-settled-requires
 settled-requires c κs = search needs
@@ -52,11 +58,11 @@ same-length-2 c = search needs
 returns : tie.Need-returns
 returns c =
     let settled = c .before .before .before in
-    let called = settled .before .before .before .before .before .before .before .before .before in
+    let called = settled .before .before .before .before .before .before .before .before .before .before in
     let started = called .before .before .before in
     let first = begin started in
     let (given, _, other) = first .pre in
-    let made = rw (settled .before .before .before .n .given .1, started .start .ensures) at (called .path .ensures .0) in
+    let made = rw (settled .before .before .before .before .n .given .1, started .start .ensures) at (called .path .ensures .0) in
     rw (c .settled .ensures)
     (path-settled _ (given .sound) _ (given .mission) (first .args .on) _ (given .named) _ _ _ made other _ _ (settled .settle .ensures))
 

@@ -4,7 +4,8 @@ use native.Mathlib.Omega.{arith}
 use borrow.Author.Needs.{needs}
 use Rattle.rows.proofs.Rules.{sound-facts, sound-length, start-inside}
 use Rattle.rows.proofs.Books.{start-named}
-use Rattle.filling.proofs.Outcomes.{first, second, third, combine-fills, combined-value, filled-full, filled-startable, filled-useful, filled-settled}
+use Rattle.changing.proofs.Reached.{made-reached}
+use Rattle.filling.proofs.Outcomes.{first, second, third, combine-fills, combined-value, filled-full, filled-startable, filled-settled}
 use Rattle.filling.proofs.combines.fill_combined.Statement.{statement}
 use Rattle.filling.proofs.combines.fill_combined.Tie as tie
 
@@ -39,14 +40,18 @@ combine-rows-requires c κs =
 enum-known-r : tie.Need-enum-known-r
 enum-known-r c = search needs
 
-settle-useful-requires : tie.Need-settle-useful-requires
-settle-useful-requires c κs =
-    let called = c .before .before .before .before .before .before .before .before in
+settle-requires : tie.Need-settle-requires
+settle-requires c κs =
+    let called = c .before .before .before .before .before .before .before .before .before in
     let asked = called .before .before .before in
     let (given, _, empty) = begin asked .pre in
-    let made = rw (c .before .before .r .given .1, asked .before .before .start .ensures, asked .start2 .ensures) at (called .combine-rows .ensures) in
-    let fills = combine-fills _ _ _ _ _ given empty in
-    (made .grows .tidy, omega (arith, third _ _ _ _ _ given), filled-startable fills _ _ _ made, filled-useful fills _ _ _ made)
+    let made = rw (c .before .before .before .r .given .1, asked .before .before .start .ensures, asked .start2 .ensures) at (called .combine-rows .ensures .0) in (
+      made .grows .tidy,
+      called .combine-rows .ensures .1,
+      omega (arith, third _ _ _ _ _ given),
+      filled-startable (combine-fills _ _ _ _ _ given empty) _ _ _ made,
+      made-reached _ (given .sound) made,
+    )
 
 has-names-requires : tie.Need-has-names-requires
 has-names-requires c κs = search needs
@@ -60,7 +65,7 @@ enum-told c = search needs
 no-room-requires : tie.Need-no-room-requires
 no-room-requires c κs =
     let called = c .before .before .before .before .before .before .before in
-    let full = rw (c .before .enum-told .given .1) at (called .combine-rows .ensures) in
+    let full = rw (c .before .enum-told .given .1) at (called .combine-rows .ensures .0) in
     full .grows .tidy
 
 same-length : tie.Need-same-length
@@ -72,14 +77,14 @@ same-length-2 c = search needs
 returns : tie.Need-returns
 returns c =
     let settled = c .before .before .before .before in
-    let called = settled .before .before .before .before .before .before .before .before .before in
+    let called = settled .before .before .before .before .before .before .before .before .before .before in
     let asked = called .before .before .before in
     let (given, _, empty) = begin asked .pre in
     let made =
-    rw (settled .before .before .before .r .given .1, asked .before .before .start .ensures, asked .start2 .ensures) at (called .combine-rows .ensures)
+    rw (settled .before .before .before .before .r .given .1, asked .before .before .start .ensures, asked .start2 .ensures) at (called .combine-rows .ensures .0)
     in
     rw (c .settled .ensures, c .before .has-names .ensures, combined-value _ made)
-    (filled-settled (combine-fills _ _ _ _ _ given empty) _ _ _ made _ _ (settled .settle-useful .ensures))
+    (filled-settled (combine-fills _ _ _ _ _ given empty) _ _ _ made _ _ (settled .settle .ensures))
 
 same-length-3 : tie.Need-same-length-3
 same-length-3 c = search needs
@@ -94,7 +99,7 @@ returns-2 c =
     let asked = called .before .before .before in
     let (given, _, empty) = begin asked .pre in
     let full =
-    rw (refused .before .before .enum-told .given .1, asked .before .before .start .ensures, asked .start2 .ensures) at (called .combine-rows .ensures)
+    rw (refused .before .before .enum-told .given .1, asked .before .before .start .ensures, asked .start2 .ensures) at (called .combine-rows .ensures .0)
     in
     rw (refused .no-room .ensures .0) (filled-full (combine-fills _ _ _ _ _ given empty) _ _ _ full (refused .no-room .ensures .1))
 
@@ -106,7 +111,7 @@ fill-combined-spec =
     start-requires-2
     combine-rows-requires
     enum-known-r
-    settle-useful-requires
+    settle-requires
     has-names-requires
     settled-requires
     enum-told

@@ -3,7 +3,8 @@
 use native.Mathlib.Omega.{arith}
 use borrow.Author.Needs.{needs}
 use Rattle.rows.proofs.Rules.{sound-facts}
-use Rattle.filling.proofs.Outcomes.{list-few, load-fills, filled-full, filled-startable, filled-useful, filled-settled}
+use Rattle.changing.proofs.Reached.{made-reached}
+use Rattle.filling.proofs.Outcomes.{list-few, load-fills, filled-full, filled-startable, filled-settled}
 use Rattle.filling.proofs.loads.fill_list.Statement.{statement}
 use Rattle.filling.proofs.loads.fill_list.Tie as tie
 
@@ -27,13 +28,17 @@ enum-known-r c = search needs
 abbrev begin : tie.After-build-list → tie.Start
 begin c = c .before .before .before .before .before .before .before
 
-settle-useful-requires : tie.Need-settle-useful-requires
-settle-useful-requires c κs =
-    let called = c .before .before .before .before .before .before .before .before in
+settle-requires : tie.Need-settle-requires
+settle-requires c κs =
+    let called = c .before .before .before .before .before .before .before .before .before in
     let (given, _, empty) = begin called .pre in
-    let made = rw (c .before .before .r .given .1) at (called .build-list .ensures) in
-    let fills = load-fills _ _ _ given empty in
-    (made .grows .tidy, omega (arith, given .mission), filled-startable fills _ _ _ made, filled-useful fills _ _ _ made)
+    let made = rw (c .before .before .before .r .given .1) at (called .build-list .ensures .0) in (
+      made .grows .tidy,
+      called .build-list .ensures .1,
+      omega (arith, given .mission),
+      filled-startable (load-fills _ _ _ given empty) _ _ _ made,
+      made-reached _ (given .sound) made,
+    )
 
 settled-requires : tie.Need-settled-requires
 settled-requires c κs = search needs
@@ -44,7 +49,7 @@ enum-told c = search needs
 no-room-requires : tie.Need-no-room-requires
 no-room-requires c κs =
     let called = c .before .before .before .before .before .before .before in
-    let full = rw (c .before .enum-told .given .1) at (called .build-list .ensures) in
+    let full = rw (c .before .enum-told .given .1) at (called .build-list .ensures .0) in
     full .grows .tidy
 
 same-length : tie.Need-same-length
@@ -56,11 +61,11 @@ same-length-2 c = search needs
 returns : tie.Need-returns
 returns c =
     let settled = c .before .before .before in
-    let called = settled .before .before .before .before .before .before .before .before .before in
+    let called = settled .before .before .before .before .before .before .before .before .before .before in
     let (given, _, empty) = begin called .pre in
-    let made = rw (settled .before .before .before .r .given .1) at (called .build-list .ensures) in
+    let made = rw (settled .before .before .before .before .r .given .1) at (called .build-list .ensures .0) in
     rw (c .settled .ensures, called .before .before .before .name-count .ensures)
-    (filled-settled (load-fills _ _ _ given empty) _ _ _ made _ _ (settled .settle-useful .ensures))
+    (filled-settled (load-fills _ _ _ given empty) _ _ _ made _ _ (settled .settle .ensures))
 
 same-length-3 : tie.Need-same-length-3
 same-length-3 c = search needs
@@ -73,7 +78,7 @@ returns-2 c =
     let refused = c .before .before in
     let called = refused .before .before .before .before .before .before .before .before in
     let (given, _, empty) = begin called .pre in
-    let full = rw (refused .before .before .enum-told .given .1) at (called .build-list .ensures) in
+    let full = rw (refused .before .before .enum-told .given .1) at (called .build-list .ensures .0) in
     rw (refused .no-room .ensures .0) (filled-full (load-fills _ _ _ given empty) _ _ _ full (refused .no-room .ensures .1))
 
 pub fill-list-spec : {M : Type 1} → statement M
@@ -84,7 +89,7 @@ fill-list-spec =
     cast-names
     build-list-requires
     enum-known-r
-    settle-useful-requires
+    settle-requires
     settled-requires
     enum-told
     no-room-requires

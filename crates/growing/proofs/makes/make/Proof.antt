@@ -151,7 +151,8 @@ enter-requires c κs =
     let wrote = c .before .before .before .before in
     let there = chosen wrote in
     let (tidy, indexed, fitting) = begin (joined (search-of there)) .pre in
-    rw (there .before .free-row .ensures) (written-entering _ indexed (free there .positive) (fitting .some) (written wrote))
+    rw (there .before .free-row .ensures)
+    (written-entering _ indexed (free there .positive) (fitting .some) (written wrote) (targets-inside _ _ _ tidy fitting))
 
 cast-t20 : tie.Need-cast-t20
 cast-t20 c =

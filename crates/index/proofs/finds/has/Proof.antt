@@ -1,54 +1,46 @@
--- `has` meets its promise. The loop's invariant: the row has the wanted targets at every letter below `x`. The measure is the letters that are
--- left. Assumes nothing.
-use Prim.Native.Nat.{_-_}
-use mathlib.Core.Path.{_≡_, sym}
-use mathlib.Core.Bool.{true, and-false}
+-- `has` meets its promise. The loop's invariant: `same` says whether the row has the wanted mark, and the wanted targets at the letters below `x`. The
+-- measure is the letters that are left. Assumes nothing.
+use Prim.Native.Nat.{ℕ, _+_, _-_, _≤_}
+use mathlib.Core.Path.{_≡_}
+use mathlib.Core.Bool.{Bool, _&&_, and-true, and-assoc}
+use native.Mathlib.Numerals.{add-one}
 use native.Mathlib.Omega.{arith}
 use borrow.Author.Needs.{needs}
-use borrow.Author.Tests.{eq-eqb, ne-eqb}
 use lib.Dec.{eqb}
 use lib.ListN.{getD}
 use Rattle.letters.specs.Letters.{letters}
 use Rattle.sets.specs.Below.{allBelow}
-use Rattle.sets.proofs.Below.{not-all-below}
-use Rattle.sets.proofs.Loops.{all-more, all-done}
 use Rattle.rows.specs.Table.{mark, target}
 use Rattle.index.proofs.finds.has.Statement.{statement}
 use Rattle.index.proofs.finds.has.Tie as tie
 
+-- one letter more is compared
+same-more : (first : Bool) (test : ℕ → Bool) (x : ℕ) {same : Bool} → same ≡ (first && allBelow x test) → (same && test x) ≡ (first && allBelow (x + 1) test)
+unfolding allBelow
+same-more first test x e = rw (e, add-one) (and-assoc first (allBelow x test) (test x))
+
 abbrev Inv-loop : tie.InvT-loop
-Inv-loop t r wanted targets x₀ x = allBelow x (λ y. eqb (target t r y) (getD targets y 0)) ≡ true
+Inv-loop t r wanted targets same₀ x₀ same x =
+    (x ≤ letters) × (same ≡ (eqb (mark t r) wanted && allBelow x (λ y. eqb (target t r y) (getD targets y 0))))
 
 abbrev μ-loop : tie.MeasureT-loop
-μ-loop t r wanted targets x₀ x = letters - x
+μ-loop t r wanted targets same₀ x₀ same x = letters - x
 
 mark-requires : tie.Need-mark-requires Inv-loop μ-loop
 mark-requires c κs = search needs
 
-returns : tie.Need-returns Inv-loop μ-loop
-returns c =
-    let args = c .before .before .before .before .args in
-    rw (ne-eqb (mark (args .t .now) (args .r)) (args .wanted) (λ e. omega arith))
-
 loop-holds : tie.Need-loop-holds Inv-loop μ-loop
 unfolding allBelow
-loop-holds c = search needs
+loop-holds c = (omega arith, rw (c .mark .ensures, and-true))
 
 target-requires : tie.Need-target-requires Inv-loop μ-loop
 target-requires c κs = search needs
 
-mul-if2 : tie.Need-mul-if2 Inv-loop μ-loop
-mul-if2 c = search needs
+mul-same : tie.Need-mul-same Inv-loop μ-loop
+mul-same c = search needs
 
-shared-slice-read-if2 : tie.Need-shared-slice-read-if2 Inv-loop μ-loop
-shared-slice-read-if2 c = search needs
-
-returns-2 : tie.Need-returns-2 Inv-loop μ-loop
-returns-2 c =
-    let l = c .before .before .before .before .loop in
-    let args = c .before .before .before .before .before .before .before .before .before .args in
-    let differ = ne-eqb (target (args .t .now) (args .r) (l .x)) (getD (args .targets .now) (l .x) 0) (λ e. omega arith) in
-    rw (not-all-below _ letters (l .x) (omega arith) differ, and-false)
+shared-slice-read-same : tie.Need-shared-slice-read-same Inv-loop μ-loop
+shared-slice-read-same c = search needs
 
 add-x : tie.Need-add-x Inv-loop μ-loop
 add-x c = search needs
@@ -58,16 +50,17 @@ loop-less c = search needs
 
 loop-again : tie.Need-loop-again Inv-loop μ-loop
 loop-again c =
-    let l = c .before .before .before .before .loop in
-    let args = c .before .before .before .before .before .before .before .before .before .args in
-    let same = eq-eqb (target (args .t .now) (args .r) (l .x)) (getD (args .targets .now) (l .x) 0) (omega arith) in
-    all-more _ (l .x) (l .inv) same
+    let l = c .before .before .before .loop in
+    let args = c .before .before .before .before .before .before .before .args in
+    let first = eqb (mark (args .t .now) (args .r)) (args .wanted) in
+    let test : ℕ → Bool = λ y. eqb (target (args .t .now) (args .r) y) (getD (args .targets .now) y 0) in
+    (omega arith, rw (c .before .target .ensures) (same-more first test (l .x) (l .inv .1)))
 
-returns-3 : tie.Need-returns-3 Inv-loop μ-loop
-returns-3 c =
-    let l = c .before .loop in
-    let args = c .before .before .before .before .before .before .args in
-    rw (eq-eqb (mark (args .t .now) (args .r)) (args .wanted) (omega arith)) (sym (all-done _ (l .x) letters (l .inv) (omega arith)))
+returns : tie.Need-returns Inv-loop μ-loop
+returns c =
+    let (low, same) = c .before .loop .inv in
+    let all : c .before .loop .x ≡ letters = omega arith in
+    rw all at same
 
 pub has-spec : {M : Type 1} → statement M
 has-spec =
@@ -76,13 +69,11 @@ has-spec =
     Inv-loop
     μ-loop
     mark-requires
-    returns
     loop-holds
     target-requires
-    mul-if2
-    shared-slice-read-if2
-    returns-2
+    mul-same
+    shared-slice-read-same
     add-x
     loop-less
     loop-again
-    returns-3)
+    returns)

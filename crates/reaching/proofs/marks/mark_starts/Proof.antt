@@ -9,7 +9,7 @@ use Rattle.model.specs.Lists.{missions}
 use Rattle.rows.specs.Table.{start}
 use Rattle.rows.proofs.Facts.{named-inside}
 use Rattle.rows.proofs.Books.{start-named}
-use Rattle.rules.specs.Pointed.{Pointed}
+use Rattle.reaching.specs.Marks.{Pointed}
 use Rattle.reaching.proofs.Marking.{givenBelow, given-none, given-more}
 use Rattle.reaching.proofs.marks.mark_starts.Statement.{statement}
 use Rattle.reaching.proofs.marks.mark_starts.Tie as tie

@@ -8,7 +8,7 @@ use lib.ListN.{length}
 use Rattle.letters.specs.Letters.{letters}
 use Rattle.rows.specs.Table.{target}
 use Rattle.rows.proofs.Facts.{named-inside, target-named}
-use Rattle.rules.specs.Pointed.{Pointed}
+use Rattle.reaching.specs.Marks.{Pointed}
 use Rattle.reaching.proofs.Marking.{givenBelow, given-none, given-more, targets-past}
 use Rattle.reaching.proofs.marks.mark_targets.Statement.{statement}
 use Rattle.reaching.proofs.marks.mark_targets.Tie as tie

@@ -2,7 +2,7 @@
 use Prim.Native.Nat.{ℕ}
 use native.Mathlib.Omega.{arith}
 use borrow.Author.Needs.{needs}
-use borrow.Author.Tests.{eqb-true, eq-eqb}
+use borrow.Author.Tests.{ltb-true, lt-ltb}
 use lib.ListN.{getD}
 use Rattle.reaching.proofs.Spreading.{row-skipped, row-spread}
 use Rattle.reaching.proofs.spreads.spread_row.Statement.{statement}
@@ -21,7 +21,7 @@ slice-read-if1 c = search needs
 returns : tie.Need-returns
 returns c =
     let start = c .before .before .before .before in
-    row-skipped (start .pre .0) (start .pre .2) (start .pre .1) (λ m. omega (arith, eqb-true (number start) 1 m))
+    row-skipped (start .pre .0) (start .pre .2) (start .pre .1) (λ m. omega (arith, ltb-true 0 (number start) m))
 
 mark-targets-requires : tie.Need-mark-targets-requires
 mark-targets-requires c κs = search needs
@@ -33,7 +33,7 @@ returns-2 : tie.Need-returns-2
 returns-2 c =
     let called = c .before .before in
     let start = called .before .before .before .before .before .before in
-    row-spread (start .pre .0) (start .pre .2) (start .pre .1) (eq-eqb (number start) 1 (omega arith)) (called .mark-targets .ensures)
+    row-spread (start .pre .0) (start .pre .2) (start .pre .1) (lt-ltb 0 (number start) (omega arith)) (called .mark-targets .ensures)
 
 pub spread-row-spec : {M : Type 1} → statement M
 spread-row-spec =

@@ -1,6 +1,7 @@
 -- `arcs_ok` meets its promise. The loop's invariant: the targets of the letters below `x` are fine, `top` is the greatest height that they ask
--- for, `m` is what they are mixed to for the key, and the array points at them. A target that is neither 0 nor a row in use breaks the rule; after the
--- loop the height and number 39 decide. The measure is the letters that are left. Assumes nothing.
+-- for, `m` is what they are mixed to for the key, and the array counts them. A target that is neither 0 nor a row in use breaks the rule; after the
+-- loop the height and number 39 decide. No more arcs lead to a row than there are letters so far, so each number has place for one more. The measure
+-- is the letters that are left. Assumes nothing.
 use Prim.Native.Nat.{ℕ, suc, _+_, _-_, _*_, _≤_, _<_, max}
 use mathlib.Core.Path.{_≡_, refl, sym, ap, _∙_}
 use mathlib.Core.Bool.{Bool, true, false, _&&_, _||_, and-false}
@@ -11,11 +12,13 @@ use native.Mathlib.Decide.{ℕ-discrete}
 use borrow.Author.Needs.{needs}
 use borrow.Author.Tests.{ne-eqb, eq-eqb, le-leb, lt-leb}
 use lib.Dec.{eqb, leb}
+use lib.ListN.{getD}
 use Rattle.letters.specs.Letters.{letters}
+use Rattle.letters.specs.LetterSet.{flag}
 use Rattle.letters.specs.Names.{longest}
-use Rattle.sets.specs.Below.{allBelow, someBelow, greatest}
+use Rattle.sets.specs.Below.{allBelow, total, greatest}
 use Rattle.sets.proofs.Below.{not-all-below}
-use Rattle.rows.specs.Table.{Table, mark, height, target, inUse}
+use Rattle.rows.specs.Table.{Table, rowCount, mostRows, mark, height, target, inUse}
 use Rattle.rows.specs.Rules.{above, lastOk, arcsOk}
 use Rattle.rules.specs.declared.arcs.Asked.the-variants.{Height, Broken}
 use Rattle.rules.specs.Asked.{asksIf, asks}
@@ -23,10 +26,11 @@ use Rattle.rows.specs.Skips.{NextArc}
 use Rattle.index.specs.Buckets.{factor, mix, most, keyFrom, rowKey}
 use Rattle.index.proofs.Buckets.{mix-none, mix-more, mix-zero}
 use Rattle.index.proofs.Keeping.{keyed-more}
-use Rattle.rules.specs.Pointed.{Pointed}
+use Rattle.index.specs.Arcs.{arcsFrom, Adds, Few}
+use Rattle.index.proofs.Arcs.{adds-none, adds-both, arcs-most, arcs-more, arcs-zero}
 use Rattle.sets.proofs.Loops.{all-more}
 use Rattle.rows.proofs.Skipping.{past}
-use Rattle.rules.proofs.Writes.{points-nowhere, points-at-both, not-passed, keyed-if, not-keyed}
+use Rattle.rules.proofs.Writes.{not-passed, keyed-if, not-keyed}
 use Rattle.rules.proofs.arcs.arcs_ok.Statement.{statement}
 use Rattle.rules.proofs.arcs.arcs_ok.Tie as tie
 
@@ -45,12 +49,12 @@ record Followed (t : Table) (r x top m : ℕ) (p q : List ℕ) : Type 0 where
   asked : top ≡ greatest x (λ y. above t (target t r y))
   mixes : m ≡ mix (mark t r) (λ y. target t r y) x
   small : m < suc x * most
-  points : Pointed (λ s. someBelow x (λ y. eqb (target t r y) s)) p q
+  counts : Adds (λ s. arcsFrom t r x s) p q
 
 module _ (t : Table) (r : ℕ) where
   followed-none : (m : ℕ) (p : List ℕ) → m ≡ mix (mark t r) (λ x. 0) 0 → m < most → Followed t r 0 0 m p p
-  unfolding allBelow someBelow greatest
-  followed-none m p e small = record { fine = refl; asked = refl; mixes = e ∙ mix-none _ _ _; small = omega arith; points = points-nowhere (λ s. refl) }
+  unfolding allBelow total greatest
+  followed-none m p e small = record { fine = refl; asked = refl; mixes = e ∙ mix-none _ _ _; small = omega arith; counts = adds-none (λ s h. refl) }
 
   -- a fine target above 0 is a row in use
   used-target : (n s : ℕ) → (eqb n 0 || inUse t n) ≡ true → 0 < s → (inUse t n && eqb n s) ≡ eqb n s
@@ -58,8 +62,8 @@ module _ (t : Table) (r : ℕ) where
       elim (ℕ-discrete n 0) [ yes e ↦ rw (e, ne-eqb 0 s (λ d. omega arith)) | no e ↦ rw (rw (ne-eqb n 0 e) at fine) ]
 
   followed-more : {x n top h m m′ : ℕ} {p q q′ : List ℕ} → Followed t r x top m p q → n ≡ target t r x → asks t n ≡ Height h
-      → Pointed (λ s. inUse t n && eqb n s) q q′ → m′ ≡ m + n * factor x → m′ < suc (suc x) * most → Followed t r (x + 1) (max top h) m′ p q′
-  unfolding allBelow someBelow greatest
+      → Adds (λ s. flag (inUse t n && eqb n s)) q q′ → m′ ≡ m + n * factor x → m′ < suc (suc x) * most → Followed t r (x + 1) (max top h) m′ p q′
+  unfolding allBelow greatest
   followed-more {x} {n} {top} {h} before at e one given small =
       let (fine, higher) = asks-height (eqb n 0 || inUse t n) (above t n) h e in
       record {
@@ -67,25 +71,29 @@ module _ (t : Table) (r : ℕ) where
         asked = rw (add-one, before .asked, higher, at);
         mixes = rw add-one (given ∙ rw (before .mixes, at) (mix-more _ (λ y. target t r y) x));
         small = omega arith;
-        points = points-at-both (before .points) one (λ s positive. rw (add-one, used-target n s fine positive, at));
+        counts = adds-both (before .counts) one (λ s positive. rw (add-one, used-target n s fine positive, at) (arcs-more t r x s));
       }
 
   -- a letter without a target changes nothing
   followed-zero : {top m : ℕ} {p q : List ℕ} (x : ℕ) → target t r x ≡ 0 → Followed t r x top m p q → Followed t r (suc x) top m p q
-  unfolding allBelow someBelow greatest
+  unfolding allBelow greatest
   followed-zero x none before =
       record {
         fine = rw (before .fine, none);
         asked = rw none (omega (arith, before .asked));
         mixes = before .mixes ∙ sym (mix-zero _ (λ y. target t r y) x none);
         small = omega (arith, before .small);
-        points = points-at-both {second = λ s. false} (before .points) (points-nowhere (λ s. refl)) (λ s positive.
-            rw (none, ne-eqb 0 s (λ d. omega arith)));
+        counts = adds-both {second = λ s. 0} (before .counts) (adds-none (λ s h. refl)) (λ s positive. omega (arith, arcs-zero t r x s positive none));
       }
 
   followed-skip : {y e top m : ℕ} {p q : List ℕ} → Followed t r y top m p q → NextArc t r y e → Followed t r e top m p q
   followed-skip {y} {e} {top} {m} {p} {q} before next =
       past (λ x. target t r x) (λ x. Followed t r x top m p q) followed-zero y e (next .from) (next .none) before
+
+  -- the rows below and the letters below leave place for one arc more
+  place-for-one : {x top m : ℕ} {p q : List ℕ} → Followed t r x top m p q → Few (r * letters) p → r < rowCount t → rowCount t ≤ mostRows → x < letters
+      → (n : ℕ) → 0 < n → getD q n 0 < mostRows * letters
+  place-for-one {x} before few row fits h n some = omega (arith, before .counts .adds n some, few n some, arcs-most t r x n)
 
   arcs-broken : (x n : ℕ) → x < letters → n ≡ target t r x → asks t n ≡ Broken → arcsOk t r ≡ false
   arcs-broken x n h at e = rw (not-all-below _ letters x h (rw at at (asks-broken (eqb n 0 || inUse t n) (above t n) e)))
@@ -95,10 +103,10 @@ module _ (t : Table) (r : ℕ) where
   arcs-left all = rw (all .fine, ← all .asked)
 
 abbrev Inv-loop : tie.InvT-loop
-Inv-loop t r pointed₀ index top₀ m₀ x₀ pointed top m x = (x ≤ letters) × Followed t r x top m pointed₀ pointed
+Inv-loop t r arcs₀ index top₀ m₀ x₀ arcs top m x = (x ≤ letters) × Followed t r x top m arcs₀ arcs
 
 abbrev μ-loop : tie.MeasureT-loop
-μ-loop t r pointed₀ index top₀ m₀ x₀ pointed top m x = letters - x
+μ-loop t r arcs₀ index top₀ m₀ x₀ arcs top m x = letters - x
 
 mark-requires : tie.Need-mark-requires Inv-loop μ-loop
 mark-requires c κs = search needs
@@ -126,7 +134,10 @@ cast-follow : tie.Need-cast-follow Inv-loop μ-loop
 cast-follow c = search needs
 
 follow-requires : tie.Need-follow-requires Inv-loop μ-loop
-follow-requires c κs = search needs
+follow-requires c κs =
+    let at-loop = c .before .before .before in
+    let begin = start at-loop in
+    (search needs, λ some. place-for-one _ _ (at-loop .loop .inv .1) (begin .pre .4) (begin .pre .0) (begin .pre .2) (omega arith) _ some)
 
 enum-known-h : tie.Need-enum-known-h Inv-loop μ-loop
 enum-known-h c = search needs
@@ -180,7 +191,7 @@ loop-again c =
 all-followed : (c : tie.After-loop Inv-loop μ-loop) →
     let l = c .before .loop in
     let args = start (c .before) .args in
-    Followed (args .t .now) (args .r) letters (l .top) (l .m) (args .pointed .now) (l .pointed)
+    Followed (args .t .now) (args .r) letters (l .top) (l .m) (args .arcs .now) (l .arcs)
 all-followed c =
     let all : c .before .loop .x ≡ letters = omega arith in
     rw all at (c .before .loop .inv .1)
@@ -245,7 +256,7 @@ returns-4 c =
       record {
         says = rw (left called, same, low, c .last .ensures);
         long = omega arith;
-        points = λ _. all-followed (called .before) .points;
+        counts = λ _. all-followed (called .before) .counts;
       },
       rw (kept .keep-key .ensures, key) (keyed-if (keyed-more t (begin .args .r) (begin .args .index .now) (begin .pre .3) (omega (arith, begin .pre .2)))),
     )

@@ -1,4 +1,4 @@
--- `row_ok` meets its promise: a free row passes and points at nothing, and of a row in use the arcs decide. Assumes nothing.
+-- `row_ok` meets its promise: a free row passes and has no arcs, and of a row in use the arcs decide. Assumes nothing.
 use mathlib.Core.Path.{_≡_, refl, sym, _∙_}
 use mathlib.Core.Bool.{true, false≢true}
 use borrow.Author.Needs.{needs}
@@ -6,7 +6,8 @@ use borrow.Author.Tests.{not-true, not-false}
 use Rattle.rows.specs.Table.{inUse}
 use Rattle.rows.proofs.Facts.{in-use-used, used-in-use}
 use Rattle.index.proofs.Keeping.{keyed-skip}
-use Rattle.rules.proofs.Writes.{points-nowhere, keyed-if}
+use Rattle.index.proofs.Arcs.{adds-none}
+use Rattle.rules.proofs.Writes.{keyed-if}
 use Rattle.rules.proofs.arcs.row_ok.Statement.{statement}
 use Rattle.rules.proofs.arcs.row_ok.Tie as tie
 
@@ -22,14 +23,16 @@ in-use-requires c κs = search needs
 returns : tie.Need-returns
 returns c =
     let free = sym (c .before .in-use .ensures) ∙ not-true _ (c .if1 .taken) in
-    let begin = c .before .before .before .before .before in
-    (rw free (record { says = refl; long = refl; points = λ e. points-nowhere (λ s. refl) }), keyed-if (keyed-skip (begin .pre .2) (λ u. false≢true (sym free ∙ used-in-use u))))
+    let begin = c .before .before .before .before .before in (
+      rw free (record { says = refl; long = refl; counts = λ e. adds-none (λ s h. refl) }),
+      keyed-if (keyed-skip (begin .pre .2) (λ u. false≢true (sym free ∙ used-in-use u))),
+    )
 
 arcs-ok-requires : tie.Need-arcs-ok-requires
 arcs-ok-requires c κs =
     let there = c .before .before in
     let begin = start there in
-    (in-use-used (begin .args .t .now) _ (used there) .inside, begin .pre .0, begin .pre .1, begin .pre .2)
+    (in-use-used (begin .args .t .now) _ (used there) .inside, begin .pre .0, begin .pre .1, begin .pre .2, begin .pre .3)
 
 same-length : tie.Need-same-length
 same-length c = search needs

@@ -1,6 +1,6 @@
--- `rule3` meets its promise. The loop's invariant: the rows below `r` pass, the array points at their targets, and the index has their keys. The measure is
+-- `rule3` meets its promise. The loop's invariant: the rows below `r` pass, the array counts their arcs, and the index has their keys. The measure is
 -- the rows that are left. Assumes nothing.
-use Prim.Native.Nat.{ℕ, _-_, _≤_, max}
+use Prim.Native.Nat.{ℕ, _-_, _*_, _≤_, max}
 use mathlib.Core.Path.{_≡_, refl, sym, _∙_}
 use mathlib.Core.Bool.{true}
 use mathlib.Core.List.{List}
@@ -9,22 +9,24 @@ use native.Mathlib.Numerals.{add-one}
 use native.Mathlib.Omega.{arith}
 use borrow.Author.Needs.{needs}
 use borrow.Author.Tests.{not-true, not-false}
-use Rattle.sets.specs.Below.{allBelow, someBelow}
+use Rattle.letters.specs.Letters.{letters}
+use Rattle.sets.specs.Below.{allBelow, total}
 use Rattle.sets.proofs.Below.{not-all-below}
 use Rattle.rows.specs.Table.{Table, rowCount}
 use Rattle.rows.specs.Rules.{ifUsed, arcsOk, rule3}
 use Rattle.index.specs.Index.{Keyed}
 use Rattle.index.proofs.Keeping.{keyed-skip, keyed-less}
-use Rattle.rules.specs.Pointed.{Pointed, targetOfBelow}
+use Rattle.index.specs.Arcs.{arcsBelow, Adds, Few}
+use Rattle.index.proofs.Arcs.{adds-none, adds-both, below-most, below-more}
 use Rattle.sets.proofs.Loops.{all-more, all-done}
-use Rattle.rules.proofs.Writes.{points-nowhere, points-at-both, not-passed, keyed-if, not-keyed}
+use Rattle.rules.proofs.Writes.{not-passed, keyed-if, not-keyed}
 use Rattle.rules.proofs.arcs.rule3.Statement.{statement}
 use Rattle.rules.proofs.arcs.rule3.Tie as tie
 
 -- the loop ends behind the last row, and in a table without rows at row 1, below which nothing is in use
 all-rows : (t : Table) (k r : ℕ) {p q : List ℕ} → k ≤ r → r ≤ max k 1
-    → Pointed (λ s. targetOfBelow t r s) p q → Pointed (λ s. targetOfBelow t k s) p q
-unfolding someBelow
+    → Adds (λ s. arcsBelow t r s) p q → Adds (λ s. arcsBelow t k s) p q
+unfolding total
 all-rows t k r past near d =
     elim (ℕ-discrete r k) [
       | yes e ↦ rw e at d
@@ -34,25 +36,29 @@ all-rows t k r past near d =
           rw none (rw one at d)
     ]
 
+-- no more arcs lead to a row than there are letters in the rows so far
+few : (t : Table) (r : ℕ) {p q : List ℕ} → Few 0 p → Adds (λ s. arcsBelow t r s) p q → Few (r * letters) q
+few t r none d s h = omega (arith, none s h, d .adds s h, below-most t r s)
+
 abbrev Inv-loop : tie.InvT-loop
-Inv-loop t pointed₀ index₀ k r₀ pointed index r =
-    (r ≤ max k 1) × (allBelow r (λ s. ifUsed t s (arcsOk t s)) ≡ true) × Pointed (λ s. targetOfBelow t r s) pointed₀ pointed × Keyed t r index
+Inv-loop t arcs₀ index₀ k r₀ arcs index r =
+    (r ≤ max k 1) × (allBelow r (λ s. ifUsed t s (arcsOk t s)) ≡ true) × Adds (λ s. arcsBelow t r s) arcs₀ arcs × Keyed t r index
 
 abbrev μ-loop : tie.MeasureT-loop
-μ-loop t pointed₀ index₀ k r₀ pointed index r = k - r
+μ-loop t arcs₀ index₀ k r₀ arcs index r = k - r
 
 row-count-requires : tie.Need-row-count-requires Inv-loop μ-loop
 row-count-requires c κs = search needs
 
 loop-holds : tie.Need-loop-holds Inv-loop μ-loop
-unfolding allBelow someBelow
-loop-holds c = (omega arith, refl, points-nowhere (λ s. refl), keyed-skip (c .before .before .before .before .pre .2) (λ u. omega (arith, u .positive)))
+unfolding allBelow total
+loop-holds c = (omega arith, refl, adds-none (λ s h. refl), keyed-skip (c .before .before .before .before .pre .2) (λ u. omega (arith, u .positive)))
 
 row-ok-requires : tie.Need-row-ok-requires Inv-loop μ-loop
 row-ok-requires c κs =
     let at-loop = c .before .before .before in
     let begin = at-loop .before .before .before .before .before in
-    (search needs, begin .pre .1, at-loop .loop .inv .3)
+    (search needs, begin .pre .1, at-loop .loop .inv .3, few (begin .args .t .now) (at-loop .loop .r) (begin .pre .3) (at-loop .loop .inv .2))
 
 same-length : tie.Need-same-length Inv-loop μ-loop
 same-length c = search needs
@@ -75,14 +81,14 @@ loop-less : tie.Need-loop-less Inv-loop μ-loop
 loop-less c = search needs
 
 loop-again : tie.Need-loop-again Inv-loop μ-loop
-unfolding someBelow
 loop-again c =
     let called = c .before .before .before .before .before in
     let l = called .before .before .before .before .loop in
+    let t = called .before .before .before .before .before .before .before .before .before .args .t .now in
     let passed = not-false (called .row-ok .result) (c .if1 .left) in (
       omega arith,
       all-more _ (l .r) (l .inv .1) (sym (called .row-ok .ensures .0 .says) ∙ passed),
-      points-at-both (l .inv .2) (called .row-ok .ensures .0 .points passed) (λ s h. rw add-one),
+      adds-both (l .inv .2) (called .row-ok .ensures .0 .counts passed) (λ s h. rw add-one (below-more t (l .r) s)),
       rw add-one (called .row-ok .ensures .1 .passed passed),
     )
 
@@ -100,7 +106,7 @@ returns-2 c =
       record {
         says = sym (all-done _ (l .r) (rowCount t) (l .inv .1) (omega arith));
         long = l .inv .2 .long;
-        points = λ _. all-rows t (rowCount t) (l .r) (omega arith) (omega arith) (l .inv .2);
+        counts = λ _. all-rows t (rowCount t) (l .r) (omega arith) (omega arith) (l .inv .2);
       },
       keyed-if (keyed-less (rowCount t) (omega arith) (l .inv .3)),
     )

@@ -1,5 +1,6 @@
 -- `sound_indexed` meets its promise: the branches settle the tests of a sound book one after the other, and each leaves the tests behind it. The keys
--- are in the index where rule 3 has passed, and the rows are chained before rule 6 is asked. Assumes nothing.
+-- are in the index where rule 3 has passed, the arcs that it has counted are kept behind them, and the rows are chained before rule 6
+-- is asked. Assumes nothing.
 use Prim.Native.Nat.{_≤_, _<_}
 use mathlib.Core.Path.{_≡_, sym, ap, _∙_}
 use mathlib.Core.Bool.{Bool, true, false, _&&_, false≢true}
@@ -10,8 +11,11 @@ use lib.ListN.{length}
 use Rattle.rows.specs.Table.{Table, width, rowCount, mostRows, lengthOk}
 use Rattle.rows.specs.Rules.{rule1, rule2, rule3, rule4, rule5, rule6, rule7, sound}
 use Rattle.rows.proofs.Rules.{length-facts}
+use Rattle.rows.proofs.Zeros.{zero-cell}
 use Rattle.index.proofs.Keeping.{keyed-none}
-use Rattle.rules.proofs.Writes.{targets-from-zeros}
+use Rattle.rules.proofs.Writes.{counted-from-zeros}
+use Rattle.rules.specs.Counted.{Counted}
+use Rattle.rules.proofs.Counting.{keyed-kept, arcs-kept}
 use Rattle.rules.proofs.book.sound_indexed.Statement.{statement}
 use Rattle.rules.proofs.book.sound_indexed.Tie as tie
 
@@ -91,7 +95,7 @@ at-rule5 c =
     onward (from6 (table (third (so-far .before)))) (at-rule4 so-far) (not-false (so-far .rule4 .result) (c .before .before .if5 .left)) (c .rule5 .ensures)
 
 abbrev fifth : tie.After-rule6 → tie.After-rule5
-fifth c = c .before .before .before .before .before .before .before
+fifth c = c .before .before .before .before .before .before .before .before .before .before .before .before .before
 
 at-rule6 : (c : tie.After-rule6) →
     let t = table (third (fifth c .before .before .before .before)) in
@@ -99,7 +103,8 @@ at-rule6 : (c : tie.After-rule6) →
 at-rule6 c =
     let so-far = fifth c in
     onward (rule7 (table (third (so-far .before .before .before .before)))) (at-rule5 so-far)
-    (not-false (so-far .rule5 .result) (c .before .before .before .before .before .before .if6 .left)) (c .rule6 .ensures)
+    (not-false (so-far .rule5 .result) (c .before .before .before .before .before .before .before .before .before .before .before .before .if6 .left))
+    (c .rule6 .ensures)
 
 length-fine : (c : tie.Else1) → lengthOk (c .before .before .before .before .args .t .now) ≡ true
 length-fine c = sym (c .before .length-ok .ensures) ∙ not-false _ (c .if1 .left)
@@ -113,6 +118,12 @@ third-holds c = sym (third c .rule3 .ensures .0 .says) ∙ passed c
 
 rows-fit : (c : tie.After-rule3) → (width ≤ length (table c)) × (0 < rowCount (table c)) × (rowCount (table c) ≤ mostRows)
 rows-fit c = whole-rows (table c) (length-fine (c .before .before .before .before .before .before .before))
+
+-- and the arcs are counted
+counted : (c : tie.Else4) → Counted (table (third c)) (third c .rule3 .last .1 .0)
+counted c =
+    let (whole, _, inside) = rows-fit (third c) in
+    counted-from-zeros (table (third c)) whole inside (third c .rule3 .ensures .0 .counts (passed c))
 
 -- a refusal says nothing of the index
 refused : {A : Type 0} → false ≡ true → A
@@ -144,7 +155,7 @@ rule3-requires c κs =
     let fine = c .before .before .before .before .before .before in
     let start = fine .before .before .before .before in
     let (_, _, most) = whole-rows (start .args .t .now) (length-fine fine) in
-    (most, most, rw (start .pre) (keyed-none (start .args .t .now)))
+    (most, most, rw (start .pre) (keyed-none (start .args .t .now)), λ s h. omega (arith, zero-cell mostRows s))
 
 same-length : tie.Need-same-length
 same-length c = search needs
@@ -168,10 +179,7 @@ slice-aggregate-rule5 : tie.Need-slice-aggregate-rule5
 slice-aggregate-rule5 c = search needs
 
 rule5-requires : tie.Need-rule5-requires
-rule5-requires c κs =
-    let there = c .before .before .before in
-    let (whole, _, inside) = rows-fit (third there) in
-    targets-from-zeros _ whole inside (third there .rule3 .ensures .0 .points (passed there))
+rule5-requires c κs = counted (c .before .before .before)
 
 same-length-3 : tie.Need-same-length-3
 same-length-3 c = search needs
@@ -181,11 +189,29 @@ returns-6 c =
     let t = table (third (c .before .before .before .before .before)) in
     (stopped (from6 t) (at-rule5 (c .before)) (not-true (c .before .rule5 .result) (c .if6 .taken)), refused)
 
+slice-aggregate-keep-arcs : tie.Need-slice-aggregate-keep-arcs
+slice-aggregate-keep-arcs c = search needs
+
+row-count-requires : tie.Need-row-count-requires
+row-count-requires c κs = search needs
+
+keep-arcs-requires : tie.Need-keep-arcs-requires
+keep-arcs-requires c κs =
+    let there = c .before .before .before .before .before .before .before .before in
+    let (_, _, inside) = rows-fit (third there) in
+    let rows = c .before .row-count .ensures in
+    (omega (arith, rows, counted there .counts .long), omega (arith, rows), search needs)
+
 index-rows-requires : tie.Need-index-rows-requires
 index-rows-requires c κs =
-    let there = c .before .before .before .before .before .before in
-    let (_, some, inside) = rows-fit (third there) in
-    (some, inside, third there .rule3 .ensures .1 .passed (passed there))
+    let kept = c .before .before .before in
+    let there = kept .before .before .before .before .before .before .before .before .before in
+    let (_, some, inside) = rows-fit (third there) in (
+      some,
+      inside,
+      keyed-kept inside (third there .rule3 .ensures .1 .passed (passed there)) (kept .keep-arcs .ensures),
+      arcs-kept (counted there) (kept .keep-arcs .ensures) (kept .before .before .row-count .ensures),
+    )
 
 rule6-requires : tie.Need-rule6-requires
 rule6-requires c κs = c .before .before .before .index-rows .ensures
@@ -233,6 +259,9 @@ sound-indexed-spec =
     rule5-requires
     same-length-3
     returns-6
+    slice-aggregate-keep-arcs
+    row-count-requires
+    keep-arcs-requires
     index-rows-requires
     rule6-requires
     same-length-4

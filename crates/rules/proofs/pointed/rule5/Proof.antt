@@ -13,10 +13,10 @@ use Rattle.rules.proofs.pointed.rule5.Statement.{statement}
 use Rattle.rules.proofs.pointed.rule5.Tie as tie
 
 abbrev Inv-loop : tie.InvT-loop
-Inv-loop t pointed k r₀ r = allBelow r (λ s. ifUsed t s (isPointed t s)) ≡ true
+Inv-loop t arcs k r₀ r = allBelow r (λ s. ifUsed t s (isPointed t s)) ≡ true
 
 abbrev μ-loop : tie.MeasureT-loop
-μ-loop t pointed k r₀ r = k - r
+μ-loop t arcs k r₀ r = k - r
 
 row-count-requires : tie.Need-row-count-requires Inv-loop μ-loop
 row-count-requires c κs = search needs

@@ -8,7 +8,7 @@ use Rattle.rows.specs.Table.{Table}
 use Rattle.rows.specs.Words.{words}
 use Rattle.rows.specs.Reach.{swept}
 use Rattle.settling.specs.Settled.{withStart, fits}
-use Rattle.settling.proofs.Settling.{start-back, start-tidy, start-says}
+use Rattle.settling.proofs.Settling.{start-back, start-tidy, start-says, old-named, start-reached, start-arcs}
 use Rattle.settling.proofs.settles.settle.Statement.{statement}
 use Rattle.settling.proofs.settles.settle.Tie as tie
 
@@ -18,7 +18,7 @@ left-by told e h same = e ∙ rw (h, same)
 
 module _ (c : tie.After-sweep-if-fits) where
   abbrev entry : tie.Start
-  entry = c .before .before .before .before .before .before .before .before .before
+  entry = c .before .before .before .before .before .before .before .before .before .before
 
   abbrev t : Table
   t = entry .args .t .now
@@ -33,7 +33,7 @@ module _ (c : tie.After-sweep-if-fits) where
   new = c .before .before .before .before .set-start .ensures
 
   says : c .sweep-if-fits .result ≡ fits t m (words t r)
-  says = c .sweep-if-fits .ensures .says ∙ start-says t m r (entry .pre .0) (entry .pre .1) (entry .pre .2) new
+  says = c .sweep-if-fits .ensures .says ∙ start-says t m r (entry .pre .0) (entry .pre .2) (entry .pre .3) new
 
 -- where they do not fit: the table as it was
 abbrev tried : (c : tie.After-set-start2) → tie.After-sweep-if-fits
@@ -54,8 +54,16 @@ set-start-requires c κs = search needs
 
 sweep-if-fits-requires : tie.Need-sweep-if-fits-requires
 sweep-if-fits-requires c κs =
-    let begin = c .before .before .before .before .before .before .before .before in
-    rw (c .before .before .before .set-start .ensures) (start-tidy _ _ _ (begin .pre .0) (begin .pre .1) (begin .pre .2))
+    let called = c .before .before .before in
+    let begin = called .before .before .before .before .before .before in
+    let (tidy, indexed, below, startable, reach) = begin .pre in
+    rw (called .set-start .ensures, called .before .before .start .ensures) (
+      start-tidy _ _ _ tidy below startable,
+      old-named _ _ _ tidy below startable,
+      start-reached _ _ _ tidy below startable reach,
+      indexed .keys .long,
+      start-arcs _ _ _ tidy below (begin .args .index .now) (indexed .arcs),
+    )
 
 same-length : tie.Need-same-length
 same-length c = search needs

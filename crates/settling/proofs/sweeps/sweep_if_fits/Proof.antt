@@ -1,32 +1,53 @@
--- `sweep_if_fits` meets its promise: the array is zeros, so it marks no row; then it marks the rows that are reached, these are counted, and if
--- they are few enough the others are freed. Assumes nothing.
-use mathlib.Core.Path.{_≡_, refl, _∙_}
+-- `sweep_if_fits` meets its promise: from the arcs that lead to each row the array comes to mark the rows that are reached; these are counted, and
+-- if they are few enough the others are freed. Assumes nothing.
+use Prim.Native.Nat.{ℕ, _≤_, _<_}
+use mathlib.Core.Path.{_≡_, refl, sym, _∙_}
+use mathlib.Core.Bool.{true, false}
 use borrow.Author.Needs.{needs}
+use borrow.Author.Tests.{le-leb, lt-leb}
+use lib.Dec.{leb}
 use Rattle.letters.specs.LetterSet.{countOf}
 use Rattle.rows.specs.Table.{rowCount}
 use Rattle.rows.specs.Reach.{reached}
-use Rattle.reaching.proofs.Marking.{marks-itself, zeros-mark-none}
 use Rattle.reaching.proofs.Spreading.{reached-count}
-use Rattle.settling.proofs.Sweeping.{too-many, enough, marks-only}
+use Rattle.settling.proofs.Sweeping.{taken-arcs, marks-only}
 use Rattle.settling.proofs.sweeps.sweep_if_fits.Statement.{statement}
 use Rattle.settling.proofs.sweeps.sweep_if_fits.Tie as tie
 
-abbrev marking : (c : tie.After-count-marked) → tie.After-mark-reached
+too-many : (a b n k : ℕ) → n ≡ a → k ≡ b → k < n → false ≡ leb a b
+too-many a b n k e d h = rw (← e, ← d) (sym (lt-leb n k h))
+
+enough : (a b n k : ℕ) → n ≡ a → k ≡ b → n ≤ k → true ≡ leb a b
+enough a b n k e d h = rw (← e, ← d) (sym (le-leb n k h))
+
+abbrev marking : (c : tie.After-count-marked) → tie.After-mark-without
 marking c = c .before .before .before .before .before .before
 
-abbrev start : (c : tie.After-mark-reached) → tie.Start
-start c = c .before .before .before .before
+abbrev start : (c : tie.After-mark-without) → tie.Start
+start c = c .before .before .before .before .before .before .before .before .before .before
 
 counted : (c : tie.After-count-marked) →
     let t = start (marking c) .args .t .now in
     c .count-marked .result ≡ countOf (rowCount t) (λ r. reached t r)
-counted c = c .count-marked .ensures ∙ reached-count (start (marking c) .pre) (marking c .mark-reached .ensures)
+counted c = c .count-marked .ensures ∙ reached-count (start (marking c) .pre .0) (marking c .mark-without .ensures)
 
-slice-aggregate-mark-reached : tie.Need-slice-aggregate-mark-reached
-slice-aggregate-mark-reached c = search needs
+slice-aggregate-take-arcs : tie.Need-slice-aggregate-take-arcs
+slice-aggregate-take-arcs c = search needs
 
-mark-reached-requires : tie.Need-mark-reached-requires
-mark-reached-requires c κs = let tidy = c .before .before .before .pre in (tidy, zeros-mark-none (tidy .most))
+row-count-requires : tie.Need-row-count-requires
+row-count-requires c κs = search needs
+
+take-arcs-requires : tie.Need-take-arcs-requires
+take-arcs-requires c κs = search needs
+
+slice-aggregate-mark-without : tie.Need-slice-aggregate-mark-without
+slice-aggregate-mark-without c = search needs
+
+mark-without-requires : tie.Need-mark-without-requires
+mark-without-requires c κs =
+    let taken = c .before .before .before in
+    let (tidy, named, reach, long, arcs) = taken .before .before .before .before .before .before .pre in
+    (tidy, named, taken-arcs arcs (taken .take-arcs .ensures) (taken .before .before .row-count .ensures), reach)
 
 room-requires : tie.Need-room-requires
 room-requires c κs = search needs
@@ -35,7 +56,7 @@ slice-aggregate-count-marked : tie.Need-slice-aggregate-count-marked
 slice-aggregate-count-marked c = search needs
 
 count-marked-requires : tie.Need-count-marked-requires
-count-marked-requires c κs = marks-itself (c .before .before .before .before .before .mark-reached .ensures)
+count-marked-requires c κs = c .before .before .before .before .before .mark-without .ensures .long
 
 same-length : tie.Need-same-length
 same-length c = search needs
@@ -61,15 +82,18 @@ returns-2 c =
     let begin = start (marking called) in
     record {
       says = enough _ _ _ _ (counted called) (called .before .before .before .room .ensures) (there .if1 .left);
-      table = c .before .before .sweep-rows .ensures ∙ marks-only (begin .args .t .now) _ _ (begin .pre .whole) (marking called .mark-reached .ensures);
+      table = c .before .before .sweep-rows .ensures ∙ marks-only (begin .args .t .now) _ _ (begin .pre .0 .whole) (marking called .mark-without .ensures);
     }
 
 pub sweep-if-fits-spec : {M : Type 1} → statement M
 sweep-if-fits-spec =
     tie.close
     (tie.spec
-    slice-aggregate-mark-reached
-    mark-reached-requires
+    row-count-requires
+    slice-aggregate-take-arcs
+    take-arcs-requires
+    slice-aggregate-mark-without
+    mark-without-requires
     room-requires
     slice-aggregate-count-marked
     count-marked-requires

@@ -3,7 +3,7 @@ use native.Mathlib.Omega.{arith}
 use mathlib.Core.Path.{_∙_}
 use lib.ListN.{getD}
 use borrow.Author.Needs.{needs}
-use borrow.Author.Tests.{eq-eqb, ne-eqb}
+use borrow.Author.Tests.{lt-ltb, le-ltb}
 use Rattle.rows.proofs.Facts.{row-inside}
 use Rattle.settling.proofs.Sweeping.{marked-stays, others-stay}
 use Rattle.settling.proofs.sweeps.sweep_row.Statement.{statement}
@@ -18,7 +18,7 @@ shared-slice-read-if1 c = let s = c .before .before .before in omega (arith, row
 returns : tie.Need-returns
 returns c =
     let s = c .before .before .before .before in
-    marked-stays (s .args .t .now) (s .args .keep .now) (s .args .r) (eq-eqb (getD (s .args .keep .now) (s .args .r) 0) 1 (omega arith))
+    marked-stays (s .args .t .now) (s .args .keep .now) (s .args .r) (lt-ltb 0 (getD (s .args .keep .now) (s .args .r) 0) (omega arith))
 
 free-row-requires : tie.Need-free-row-requires
 free-row-requires c κs = c .before .before .before .before .before .pre .0
@@ -30,7 +30,7 @@ returns-2 : tie.Need-returns-2
 returns-2 c =
     let s = c .before .before .before .before .before .before .before .before in
     c .before .before .free-row .ensures
-    ∙ others-stay (s .args .t .now) (s .args .keep .now) (s .args .r) (ne-eqb (getD (s .args .keep .now) (s .args .r) 0) 1 (λ e. omega arith))
+    ∙ others-stay (s .args .t .now) (s .args .keep .now) (s .args .r) (le-ltb 0 (getD (s .args .keep .now) (s .args .r) 0) (omega arith))
 
 pub sweep-row-spec : {M : Type 1} → statement M
 sweep-row-spec =
