@@ -1,10 +1,9 @@
 /*
  * book.h: sixteen lists of names, one for each mission, in one table of 16-bit numbers.
  *
- * For the author of a script host. The functions are in target/staticlib/libexports.a, which
- * `rt staticlib exports` makes, for programs on x86-64 Linux. They are written in Rattle and proved:
- * every call ends, stays inside what was lent to it, and answers as sixteen plain sets of names do.
- * Link with: cc -I include host.c target/staticlib/libexports.a
+ * For the author of a script host. `./library` makes target/book/libbook.a, for programs on x86-64 Linux,
+ * with this header beside it, and prints the line to link with. The functions are written in Rattle and
+ * proved: every call ends, stays inside what was lent to it, and answers as sixteen plain sets of names do.
  *
  * The table. The host lends it to every call: `length` numbers from `table` on. A table for a room of
  * r states, r from 1 to 1,000, has BOOK_LENGTH(r) numbers. The book lives in the table and nowhere

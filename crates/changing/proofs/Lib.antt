@@ -3,5 +3,4 @@
 pub mod Changes
 pub mod Tight
 pub mod Reached
-mod Naming
 mod Outcomes

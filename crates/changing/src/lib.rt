@@ -2,7 +2,6 @@
 // the new list needs and are not there yet, and then it is settled.
 mod clears;
 mod names;
-mod paths;
 
 pub use clears::clear;
 pub use names::add;

@@ -1,5 +1,4 @@
 // "add and remove one name".
-use super::paths::path;
 use admitting::Admission;
 use admitting::admit_indexed;
 use answers::Answer;
@@ -7,6 +6,7 @@ use answers::Refusal;
 use growing::Made;
 use index::INDEX;
 use letters::is_name;
+use naming::path;
 use rows::start;
 use settling::settle;
 use walking::ends;

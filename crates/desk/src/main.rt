@@ -26,6 +26,10 @@ const NUMBERS: usize = ROWS * WIDTH;
 // The longest line and what its answer has beside it.
 const ANSWER: usize = MOST_INPUT + SPARE;
 
+// How many bytes of a list are printed at once. Any list of this program would fit the buffer of an answer; but
+// then no test would ever come to a second piece.
+const PIECE: usize = 512;
+
 // "After `L` with number 0 the names follow in order, one per line": piece by piece, each going on where
 // the one before it ended.
 fn print_names(t: &[u16], line: &[u8], out: &mut [u8]) {
@@ -45,7 +49,8 @@ fn print_names(t: &[u16], line: &[u8], out: &mut [u8]) {
 fn print_reply(t: &mut [u16], line: &[u8], n: u32, out: &mut [u8]) {
     let bytes = reply(t, line, n, out);
     io::write_all(STDOUT_FILENO, &out[..bytes]);
-    print_names(t, line, out);
+    let mut names = [0u8; PIECE];
+    print_names(t, line, &mut names);
 }
 
 // "A last line without an end is read as if it had one."

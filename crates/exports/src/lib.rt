@@ -112,21 +112,21 @@ pub extern "C" fn book_combine(table: &mut [u16], operation: u32, a: u32, b: u32
 pub extern "C" fn book_count(table: &[u16], mission: u32) -> u64
     ensures { λ r. ⌜ Packs (now (table .entry)) (now (table .entry)) (count mission) r ⌝ }
 {
-    packed_answer(calls::count(table, mission))
+    packed_answer(ranking::count(table, mission))
 }
 
 #[no_mangle]
 pub extern "C" fn book_rank(table: &[u16], mission: u32, name: &[u8]) -> u64
     ensures { λ r. ⌜ Packs (now (table .entry)) (now (table .entry)) (rank mission (now (name .entry))) r ⌝ }
 {
-    packed_answer(calls::rank(table, mission, name))
+    packed_answer(ranking::rank(table, mission, name))
 }
 
 #[no_mangle]
 pub extern "C" fn book_nth(table: &[u16], mission: u32, n: u32, buffer: &mut [u8]) -> u64
     ensures { λ r. ⌜ PacksNth (now (table .entry)) mission n (now (buffer .entry)) (now (buffer .exit)) r ⌝ }
 {
-    packed_answer(calls::nth(table, mission, n, buffer))
+    packed_answer(ranking::nth(table, mission, n, buffer))
 }
 
 #[no_mangle]

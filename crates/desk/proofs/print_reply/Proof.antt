@@ -18,6 +18,9 @@ slice-aggregate-write-all c = sym (length-take-le _ _ (reply-inside _ _ _ _ _ _ 
 write-all-requires : tie.Need-write-all-requires
 write-all-requires c κs = search needs
 
+slice-aggregate-print-names : tie.Need-slice-aggregate-print-names
+slice-aggregate-print-names c = search needs
+
 print-names-requires : tie.Need-print-names-requires
 print-names-requires c κs = search needs
 
@@ -38,6 +41,7 @@ print-reply-spec =
     slice-reshare-prefix-write-all
     slice-aggregate-write-all
     write-all-requires
+    slice-aggregate-print-names
     print-names-requires
     same-length
     same-length-2

@@ -1,0 +1,2 @@
+-- What the proof of `path` goes by. Assumes nothing.
+mod Naming

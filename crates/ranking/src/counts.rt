@@ -1,0 +1,37 @@
+// "count the names".
+use admitting::Admission;
+use admitting::admit;
+use answers::Answer;
+use answers::Refusal;
+use counting::MOST;
+use counting::count_names;
+use rows::MOST_ROWS;
+ghost use Prim.Native.Nat.{_<_};
+ghost use mathlib.Core.Path.{_≡_};
+ghost use mathlib.Core.Bool.{true};
+ghost use Rattle.model.specs.Lists.{missions};
+ghost use Rattle.model.specs.Call.Call.{count};
+ghost use Rattle.rows.specs.Rules.{sound};
+ghost use Rattle.calls.specs.Promises.{Answers};
+
+// On a sound book: refusal 9, and the answer.
+fn count_list(t: &[u16], m: usize) -> Answer
+    requires { ⌜ (sound (now t) ≡ true) × (m < missions) ⌝ }
+    ensures { λ a. ⌜ Answers (now (t .entry)) (count m) a ⌝ }
+{
+    let mut counts = [0u16; MOST_ROWS];
+    let names = count_names(t, m, &mut counts);
+    if MOST < names {
+        return Answer::Refused(Refusal::TooMany);
+    }
+    Answer::Done(names as u32)
+}
+
+pub fn count(t: &[u16], m: u32) -> Answer
+    ensures { λ a. ⌜ Answers (now (t .entry)) (count m) a ⌝ }
+{
+    match admit(t, m, true, Refusal::NotSound) {
+        Admission::Admitted => count_list(t, m as usize),
+        Admission::Refused(r) => Answer::Refused(r),
+    }
+}
