@@ -255,7 +255,7 @@ private:
         change(mission, words.take_number(0, UINT16_MAX));
     }
 
-    // "all forty numbers of a state row; the numbers that are not named are 0"
+    // "all forty numbers of a state row; those that are not named are 0"
     void change_row(Words& words) {
         const size_t row = words.take_number(1, longest_table);
         be_inside(row * row_length + last_number);

@@ -28,7 +28,7 @@ const ANSWER: usize = MOST_INPUT + SPARE;
 
 // How many bytes of a list are printed at once. Any list of this program would fit the buffer of an answer; but
 // then no test would ever come to a second piece.
-const PIECE: usize = 512;
+const PIECE: usize = 128;
 
 // "After `L` with number 0 the names follow in order, one per line": piece by piece, each going on where
 // the one before it ended.
