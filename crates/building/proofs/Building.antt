@@ -24,7 +24,7 @@ use Rattle.rows.proofs.Facts.{no-row}
 use Rattle.rows.proofs.Words.{words-none}
 use Rattle.growing.specs.declared.makes.Made.{Made}
 use Rattle.growing.specs.Rows.{endMark, wordsOver}
-use Rattle.growing.specs.Growing.{Fitting, MadeRow, MadeFull, Makes, Targets}
+use Rattle.growing.specs.Growing.{Fitting, MadeRow, MadeFull, Makes, TargetsMade}
 use Rattle.growing.proofs.Growing.{within-after, grows-self}
 use Rattle.growing.proofs.Targets.{end-marked, targets-none, targets-more, targets-full, targets-fit, targets-made}
 use Rattle.building.specs.Groups.{namesFrom, Listed, Begins, opening, group, Behind, firstPlace, shares}
@@ -51,7 +51,7 @@ pub record Passed (t v : Table) (list : List ℕ) (at depth place : ℕ) (target
   pub done : Words
   pub grouped : Grouped (namesFrom list at) (opening list at depth) done (namesFrom list place)
   pub ends : member [] done ≡ eqb (getD list (at + depth) 0) lineEnd
-  pub made : Targets t v (group list at depth) (λ x. after x done) targets
+  pub made : TargetsMade t v (group list at depth) (λ x. after x done) targets
 
 pub passed-none : (t : Table) → Tidy t → (list : List ℕ) (at depth : ℕ) → Begins list at depth
     → Passed t t list at depth (firstPlace list at depth) (replicate letters 0)

@@ -17,7 +17,7 @@ use Rattle.letters.proofs.LetterSet.{flag-le}
 use Rattle.letters.proofs.Order.{order-cons, lower-before, higher-not-before}
 use Rattle.sets.specs.Below.{total, over}
 use Rattle.sets.specs.Sets.{Words, keep}
-use Rattle.sets.specs.Cut.{most}
+use Rattle.sets.specs.Cut.{mostNames}
 use Rattle.sets.proofs.Membership.{keep-append}
 use Rattle.sets.proofs.Below.{total-agree, total-one, total-skip, length-over, over-at, keep-over}
 use Rattle.model.specs.Lists.{rankOf, nthOf}
@@ -142,7 +142,7 @@ module _ (t : Table) (counts : List ℕ) (c : Counts t counts) where
   pub count-inside : (n : ℕ) → Counted t counts n → n < length counts
   count-inside n counted = omega (arith, named-inside t (c .tidy) n (λ some. counted some .used), c .long)
 
-  pub count-exact : (n : ℕ) → Counted t counts n → length (words t n) ≤ most → countAt counts n ≡ length (words t n)
+  pub count-exact : (n : ℕ) → Counted t counts n → length (words t n) ≤ mostNames → countAt counts n ≡ length (words t n)
   count-exact n counted few =
       elim (ℕ-discrete n 0) [
         | yes e ↦ rw (words-none t n (no-row t n e), e) (c .none)
@@ -155,7 +155,7 @@ module _ (t : Table) (counts : List ℕ) (c : Counts t counts) where
         let arc : Arc t r x = record { used = row .used; letter = h; there = there } in
         record { used = c .tidy .targets r x arc; some = c .below r x arc (row .some) }
 
-    pub ahead-counts : length (words t r) ≤ most → (x : ℕ) → x ≤ letters → aheadBy (λ s. countAt counts s) t r x ≡ ahead t r x
+    pub ahead-counts : length (words t r) ≤ mostNames → (x : ℕ) → x ≤ letters → aheadBy (λ s. countAt counts s) t r x ≡ ahead t r x
     ahead-counts few x h =
         rw (total-agree x (λ y. countAt counts (target t r y)) (λ y. length (words t (target t r y))) exact)
       where

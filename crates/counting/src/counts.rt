@@ -18,7 +18,7 @@ ghost use Rattle.counting.specs.Ahead.{aheadBy};
 ghost use Rattle.counting.specs.Counts.{countAt, Counts, Counted, CountsMore};
 
 // "the list has over 60,000 names": a greater number of words is kept as one more than this.
-pub const MOST: u16 = 60000;
+pub const MOST_NAMES: u16 = 60000;
 
 // The array's number for a row.
 pub fn count_at(counts: &[u16], n: usize) -> u16
@@ -63,7 +63,7 @@ pub fn words_ahead(t: &[u16], r: usize, x: usize, counts: &[u16]) -> u32
 fn cut(n: u32) -> u16
     ensures { λ r. ⌜ r ≡ cut n ⌝ }
 {
-    if n <= MOST as u32 { n as u16 } else { MOST + 1 }
+    if n <= MOST_NAMES as u32 { n as u16 } else { MOST_NAMES + 1 }
 }
 
 // How many words there are from n, cut; counts n, and so every row that is reached from it. Each row

@@ -4,7 +4,7 @@
 mod counts;
 mod rank;
 
-pub use counts::MOST;
+pub use counts::MOST_NAMES;
 pub use counts::count_at;
 pub use counts::count_names;
 pub use counts::target_count;

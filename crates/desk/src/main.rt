@@ -1,7 +1,7 @@
 // The desk program: reads lines from standard input, does on a book of room 486 what each asks for, and
 // prints the answers. All that can be got wrong but reading and writing is in the crate `lines`.
 use calls::empty;
-use counting::MOST;
+use counting::MOST_NAMES;
 use letters::name_end;
 use libc::STDIN_FILENO;
 use libc::STDOUT_FILENO;
@@ -34,7 +34,7 @@ const PIECE: usize = 128;
 // the one before it ended.
 fn print_names(t: &[u16], line: &[u8], out: &mut [u8]) {
     let mut n = 0u32;
-    while n < MOST as u32 {
+    while n < MOST_NAMES as u32 {
         let piece = follow(t, line, n, out);
         if piece.names == 0 {
             return;

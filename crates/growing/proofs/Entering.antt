@@ -18,7 +18,7 @@ use Rattle.index.specs.Buckets.{rowKey, bucket}
 use Rattle.index.specs.Index.{Indexed, Entering}
 use Rattle.index.proofs.Arcs.{arcs-none, one-row-more}
 use Rattle.index.proofs.Buckets.{same-key, bucket-free}
-use Rattle.growing.specs.Rows.{Written}
+use Rattle.growing.specs.Rows.{NewRow}
 
 -- row r is free
 pub record Free (t : Table) (r : ℕ) : Type 0 where
@@ -44,7 +44,7 @@ module _ (t : Table) {index : List ℕ} (indexed : Indexed t index) where
       ]
 
   -- the last free row is written
-  module _ {u : Table} {k h : ℕ} {ts : List ℕ} (some : 0 < getD index 0 0) (positive : 0 < k) (written : Written t u (getD index 0 0) k h ts)
+  module _ {u : Table} {k h : ℕ} {ts : List ℕ} (some : 0 < getD index 0 0) (positive : 0 < k) (written : NewRow t u (getD index 0 0) k h ts)
       (below : (x : ℕ) → x < letters → getD ts x 0 < rowCount t) where
     abbrev r : ℕ
     r = getD index 0 0

@@ -22,17 +22,17 @@ use Rattle.sets.proofs.Below.{tests-agree, all-below, below-all, below-greatest
 use Rattle.sets.proofs.Sets.{members-each, member-each, plain-ext}
 use Rattle.sets.proofs.Residuals.{member-after}
 use Rattle.model.specs.Lists.{missions}
-use Rattle.rows.specs.Table.{Table, width, rowCount, start, mark, height, target, last, inUse, usedRows}
+use Rattle.rows.specs.Table.{Table, width, rowCount, start, mark, height, target, number39, inUse, usedRows}
 use Rattle.rows.specs.Words.{words}
 use Rattle.rows.specs.Rules.{above}
 use Rattle.rows.specs.Tidy.{Used, Arc, Tidy}
 use Rattle.rows.specs.Growth.{Grown, Useful}
 use Rattle.rows.proofs.Facts.{no-row, in-use-used, used-in-use, named-cases, named-inside}
 use Rattle.rows.proofs.Words.{fan-empty, fan-word, fan-plain, words-plain, words-none, empty-word, words-target, has-word, height-short}
-use Rattle.rows.proofs.Growth.{grown-self, mark-kept, height-kept, target-kept, last-kept, used-kept, words-kept}
+use Rattle.rows.proofs.Growth.{grown-self, mark-kept, height-kept, target-kept, number39-kept, used-kept, words-kept}
 use Rattle.growing.specs.declared.makes.Made.the-variants.{Row, Full}
 use Rattle.index.specs.Index.{Indexed, agrees, Finds}
-use Rattle.growing.specs.Rows.{heightOver, wordsOver, Written}
+use Rattle.growing.specs.Rows.{heightOver, wordsOver, NewRow}
 use Rattle.growing.specs.Growing.{Fitting, Makes}
 use Rattle.growing.proofs.Growing.{grows-self}
 use Rattle.growing.proofs.Entering.{Free, none-free}
@@ -126,7 +126,7 @@ module _ (t : Table) (k : ℕ) (ts : List ℕ) (tidy : Tidy t) (fitting : Fittin
 
   -- a new row, where none in use agrees
   module _ (u : Table) (some : k ≡ 1 → (x : ℕ) × (x < letters) × (0 < getD ts x 0)) (none : Finds t (rowCount t) k ts 0) (r : ℕ) (free : Free t r)
-      (written : Written t u r k (heightOver t ts) ts) where
+      (written : NewRow t u r k (heightOver t ts) ts) where
     positive : 0 < r
     positive = free .positive
 
@@ -206,7 +206,7 @@ module _ (t : Table) (k : ℕ) (ts : List ℕ) (tidy : Tidy t) (fitting : Fittin
             | inl e ↦ rw e (omega (arith, written .high, height-fits))
             | inr old ↦ omega (arith, height-kept t u new-grown s old, tidy .low s old)
           ];
-          lasts = lasts;
+          numbers39 = numbers39;
           arc = arc;
           apart = apart;
         }
@@ -260,11 +260,11 @@ module _ (t : Table) (k : ℕ) (ts : List ℕ) (tidy : Tidy t) (fitting : Fittin
                   | inr e ↦ rw e (omega arith)
                 ]
 
-        lasts : (s : ℕ) → Used u s → last u s ≡ 0
-        lasts s v =
+        numbers39 : (s : ℕ) → Used u s → number39 u s ≡ 0
+        numbers39 s v =
             elim (old-or-new s v) [
               | inl e ↦ rw e (written .rest ∙ tidy .zeros r 39 positive (free .inside) empty (omega arith))
-              | inr old ↦ last-kept t u new-grown s old ∙ tidy .lasts s old
+              | inr old ↦ number39-kept t u new-grown s old ∙ tidy .numbers39 s old
             ]
 
         arc : (s : ℕ) → Used u s → mark u s ≡ 1 → (x : ℕ) × Arc u s x

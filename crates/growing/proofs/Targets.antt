@@ -28,7 +28,7 @@ use Rattle.rows.proofs.Growth.{named-kept, words-kept}
 use Rattle.growing.specs.declared.makes.Made.{Made}
 use Rattle.growing.specs.declared.makes.Made.the-variants.{Row, Full}
 use Rattle.growing.specs.Rows.{endMark, wordsOver}
-use Rattle.growing.specs.Growing.{Fitting, Grows, MadeRow, MadeFull, Makes, Targets}
+use Rattle.growing.specs.Growing.{Fitting, Grows, MadeRow, MadeFull, Makes, TargetsMade}
 use Rattle.growing.proofs.Growing.{Within, grows-self, grows-within, grows-on}
 
 few-rows : (t : Table) → usedRows t ≤ rowCount t
@@ -53,7 +53,7 @@ mark-ends true = refl
 mark-ends false = refl
 
 -- no target yet
-pub targets-none : (t : Table) → Tidy t → (l : Words) → Targets t t l (λ x. []) (replicate letters 0)
+pub targets-none : (t : Table) → Tidy t → (l : Words) → TargetsMade t t l (λ x. []) (replicate letters 0)
 targets-none t tidy l =
     record {
       grows = grows-self t tidy l;
@@ -65,10 +65,10 @@ targets-none t tidy l =
     none : (x : ℕ) → x < letters → getD {A = ℕ} (replicate letters 0) x 0 ≡ 0
     none x h = getD-replicate letters x 0 0 h
 
-module _ {t u : Table} {l : Words} {given : ℕ → Words} {ts : List ℕ} (so-far : Targets t u l given ts) where
+module _ {t u : Table} {l : Words} {given : ℕ → Words} {ts : List ℕ} (so-far : TargetsMade t u l given ts) where
   -- one more target
   pub targets-more : (v : Table) (most x n : ℕ) (more : ℕ → Words) → x < letters → MadeRow most u v (more x) n → Within (more x) l
-      → ((y : ℕ) → y < letters → (y ≡ x → ⊥) → more y ≡ given y) → Targets t v l more (set ts x n)
+      → ((y : ℕ) → y < letters → (y ≡ x → ⊥) → more y ≡ given y) → TargetsMade t v l more (set ts x n)
   targets-more v most x n more h made within others =
       record {
         grows = grows-on (so-far .grows) (grows-within (made .grows) within) (λ ls needed. needed);

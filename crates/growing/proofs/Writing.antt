@@ -9,7 +9,7 @@ use lib.ListN.{length, getD, set, length-set}
 use lib.Seq.{getD-set-same, getD-set-other}
 use Rattle.letters.specs.Letters.{letters}
 use Rattle.rows.specs.Table.{Table, width, rowCount, target}
-use Rattle.growing.specs.Rows.{Written}
+use Rattle.growing.specs.Rows.{NewRow}
 
 -- u is t with the targets of the letters below x in row r
 pub record Targeted (t u : Table) (r : ℕ) (targets : List ℕ) (x : ℕ) : Type 0 where
@@ -39,7 +39,7 @@ targeted-more {t} {u} {r} {targets} {x} inside h before =
 
 -- with the mark and the height written before, the row is written
 pub row-written : {t u : Table} {r k h : ℕ} {targets : List ℕ} → r < rowCount t
-    → Targeted (set (set t (r * width) k) (r * width + 1) h) u r targets letters → Written t u r k h targets
+    → Targeted (set (set t (r * width) k) (r * width + 1) h) u r targets letters → NewRow t u r k h targets
 row-written {t} {u} {r} {k} {h} {targets} inside all =
     let marked = set t (r * width) k in
     record {

@@ -47,7 +47,7 @@ Makes most t u l (Row r) = MadeRow most t u l r
 Makes most t u l Full = MadeFull most t u l
 
 -- rows were made for the targets of a row that is wanted for the words l: so far the target of letter x has the words `given x`
-pub record Targets (t u : Table) (l : Words) (given : ℕ → Words) (targets : List ℕ) : Type 0 where
+pub record TargetsMade (t u : Table) (l : Words) (given : ℕ → Words) (targets : List ℕ) : Type 0 where
   pub grows : Grows t u l
   pub long : length targets ≡ letters
   pub named : (x : ℕ) → x < letters → Named u (getD targets x 0)

@@ -7,7 +7,7 @@ use lib.ListN.{length, getD}
 use Rattle.letters.specs.Letters.{letters}
 use Rattle.sets.specs.Below.{greatest}
 use Rattle.sets.specs.Sets.{Words}
-use Rattle.rows.specs.Table.{Table, width, mark, height, target, last}
+use Rattle.rows.specs.Table.{Table, width, mark, height, target, number39}
 use Rattle.rows.specs.Words.{fan, words}
 use Rattle.rows.specs.Rules.{above}
 
@@ -24,10 +24,10 @@ abbrev pub wordsOver : Table → ℕ → List ℕ → Words
 wordsOver t k targets = fan k (λ x. words t (getD targets x 0))
 
 -- u is t with these numbers in row r; number 39 stays
-pub record Written (t u : Table) (r k h : ℕ) (targets : List ℕ) : Type 0 where
+pub record NewRow (t u : Table) (r k h : ℕ) (targets : List ℕ) : Type 0 where
   pub long : length u ≡ length t
   pub others : (j : ℕ) → (j / width ≡ r → ⊥) → getD u j 0 ≡ getD t j 0
   pub marked : mark u r ≡ k
   pub high : height u r ≡ h
   pub targeted : (x : ℕ) → x < letters → target u r x ≡ getD targets x 0
-  pub rest : last u r ≡ last t r
+  pub rest : number39 u r ≡ number39 t r

@@ -25,8 +25,8 @@ unfoldable pub mix : ℕ → (ℕ → ℕ) → ℕ → ℕ
 mix mark targets n = mark * markFactor + total n (λ x. targets x * factor x)
 
 -- more than a number of the table times a factor: 2 to the power 48
-abbrev pub most : ℕ
-most = 281474976710656
+abbrev pub productBound : ℕ
+productBound = 281474976710656
 
 -- the key of what was mixed: sixteen bits of it, on which all of the lower ones have an effect
 abbrev pub keyFrom : ℕ → ℕ

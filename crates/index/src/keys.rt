@@ -6,7 +6,7 @@ ghost use mathlib.Core.Path.{_≡_};
 ghost use lib.ListN.{length, getD};
 ghost use Rattle.letters.specs.Letters.{letters};
 ghost use Rattle.rows.specs.Skips.{Skipped};
-ghost use Rattle.index.specs.Buckets.{factor, mix, most, keyFrom, keyOf, bucketOf};
+ghost use Rattle.index.specs.Buckets.{factor, mix, productBound, keyFrom, keyOf, bucketOf};
 
 // 2 to the power 16.
 const SHARE: u64 = 65536;
@@ -30,15 +30,15 @@ fn factor(x: usize) -> u64
 
 // What a mark alone is mixed to.
 pub fn mixed_mark(mark: u16) -> u64
-    ensures { λ m. ⌜ (m ≡ mix mark (λ x. 0) 0) × (m < most) ⌝ }
+    ensures { λ m. ⌜ (m ≡ mix mark (λ x. 0) 0) × (m < productBound) ⌝ }
 {
     mark as u64 * MARK_FACTOR
 }
 
 // With the target for letter x, after those of lower letters.
 pub fn mixed(m: u64, x: usize, n: u16) -> u64
-    requires { ⌜ (x < letters) × (m < suc x * most) ⌝ }
-    ensures { λ r. ⌜ (r ≡ m + n * factor x) × (r < suc (suc x) * most) ⌝ }
+    requires { ⌜ (x < letters) × (m < suc x * productBound) ⌝ }
+    ensures { λ r. ⌜ (r ≡ m + n * factor x) × (r < suc (suc x) * productBound) ⌝ }
 {
     m + n as u64 * factor(x)
 }

@@ -11,7 +11,7 @@ use lib.Dec.{leb}
 use lib.ListN.{length, drop, length-drop}
 use Rattle.letters.specs.Each.{Each}
 use Rattle.letters.specs.Names.{longest}
-use Rattle.sets.specs.Cut.{most}
+use Rattle.sets.specs.Cut.{mostNames}
 use Rattle.model.specs.Lists.{lastMission, listOf}
 use Rattle.model.specs.Call.{Book}
 use Rattle.model.specs.Call.Call.{count}
@@ -52,18 +52,18 @@ module _ (t : Table) (m : ℕ) where
   unsound-behind true false o i s = rw (o, s, over-most m lastMission, i)
   unsound-behind true true o i s = rw (o, s, over-most m lastMission, i)
 
-  sound-behind : (inside few : Bool) → leb m lastMission ≡ inside → leb (length (listOf (lists t) m)) most ≡ few → sound t ≡ true → Behind
+  sound-behind : (inside few : Bool) → leb m lastMission ≡ inside → leb (length (listOf (lists t) m)) mostNames ≡ few → sound t ≡ true → Behind
   unfolding run listed
   sound-behind false few i f s = rw (sound-length t s, s, over-most m lastMission, i)
-  sound-behind true false i f s = rw (sound-length t s, s, over-most m lastMission, i, over-most (length (listOf (lists t) m)) most, f)
-  sound-behind true true i f s = rw (sound-length t s, s, over-most m lastMission, i, over-most (length (listOf (lists t) m)) most, f)
+  sound-behind true false i f s = rw (sound-length t s, s, over-most m lastMission, i, over-most (length (listOf (lists t) m)) mostNames, f)
+  sound-behind true true i f s = rw (sound-length t s, s, over-most m lastMission, i, over-most (length (listOf (lists t) m)) mostNames, f)
 
   pub listed-behind : Behind
   listed-behind = go (sound t) refl
     where
       go : (s : Bool) → sound t ≡ s → Behind
       go false s = unsound-behind (lengthOk t) (leb m lastMission) refl refl s
-      go true s = sound-behind (leb m lastMission) (leb (length (listOf (lists t) m)) most) refl refl s
+      go true s = sound-behind (leb m lastMission) (leb (length (listOf (lists t) m)) mostNames) refl refl s
 
 -- what holds of every listing, and of none, holds of the names that follow
 behind-each : (P : Words → Type 0) (t : Table) → P [] → ((m : ℕ) → P (listed t m)) → (asked : Request) → P (namesBehind (bookOf t) asked)
@@ -78,10 +78,10 @@ module _ (t : Table) (line : List ℕ) (n size : ℕ) where
   names = namesBehind (bookOf t) (requestOf line)
 
   -- a piece ends within them
-  pub following-inside : n ≤ most → n + length (following t line n size) ≤ most
+  pub following-inside : n ≤ mostNames → n + length (following t line n size) ≤ mostNames
   following-inside h =
       let few : length (drop n names) ≡ length names - n = length-drop n names in
-      omega (arith, fitting-few size (drop n names), behind-each (λ l. length l ≤ most) t (omega arith) (listed-few t) (requestOf line))
+      omega (arith, fitting-few size (drop n names), behind-each (λ l. length l ≤ mostNames) t (omega arith) (listed-few t) (requestOf line))
 
   -- the names from the n-th on are the piece that begins there, and those behind it
   pub following-rest : lines (drop n names) ≡ lines (following t line n size) ++ lines (drop (n + length (following t line n size)) names)

@@ -11,7 +11,7 @@ use borrow.Author.Tests.{le-leb, lt-leb, leb-true}
 use Rattle.letters.specs.Each.{Each}
 use Rattle.letters.specs.Names.{longest}
 use Rattle.sets.specs.Sets.{Words}
-use Rattle.sets.specs.Cut.{most}
+use Rattle.sets.specs.Cut.{mostNames}
 use Rattle.model.specs.Lists.{lastMission, missions, listOf}
 use Rattle.rows.specs.Table.{Table, start}
 use Rattle.rows.specs.Words.{lists, names}
@@ -26,11 +26,11 @@ pub nothing-written : (n : ℕ) {l : Words} (buffer : List ℕ) → l ≡ []
 unfolding fitting lines
 nothing-written n buffer e = rw (e, drop-nil) (record { names = refl; bytes = refl; buffer = refl })
 
-pub over-none : (l : Words) → most < length l → unlessOver l ≡ []
-over-none l h = rw (lt-leb (length l) most h)
+pub over-none : (l : Words) → mostNames < length l → unlessOver l ≡ []
+over-none l h = rw (lt-leb (length l) mostNames h)
 
-pub few-all : (l : Words) → length l ≤ most → unlessOver l ≡ l
-few-all l h = rw (le-leb (length l) most h)
+pub few-all : (l : Words) → length l ≤ mostNames → unlessOver l ≡ l
+few-all l h = rw (le-leb (length l) mostNames h)
 
 module _ (t : Table) (m : ℕ) where
   pub unsound-none : sound t ≡ false → listed t m ≡ []
@@ -46,18 +46,18 @@ module _ (t : Table) (m : ℕ) where
   listed-names e h = rw (e, le-leb m lastMission (omega arith), list-names t m h)
 
   -- no more names are listed than a count may say
-  pub listed-few : length (listed t m) ≤ most
+  pub listed-few : length (listed t m) ≤ mostNames
   unfolding listed
-  listed-few = go (sound t && leb m lastMission) (leb (length (listOf (lists t) m)) most) refl
+  listed-few = go (sound t && leb m lastMission) (leb (length (listOf (lists t) m)) mostNames) refl
     where
-      go : (fine few : Bool) → leb (length (listOf (lists t) m)) most ≡ few → length (cond fine (cond few (listOf (lists t) m) []) []) ≤ most
+      go : (fine few : Bool) → leb (length (listOf (lists t) m)) mostNames ≡ few → length (cond fine (cond few (listOf (lists t) m) []) []) ≤ mostNames
       go false few e = omega arith
       go true false e = omega arith
-      go true true e = leb-true (length (listOf (lists t) m)) most e
+      go true true e = leb-true (length (listOf (lists t) m)) mostNames e
 
   pub listed-short : Each (λ w. length w ≤ longest) (listed t m)
   unfolding listed
-  listed-short = go (sound t) (leb m lastMission) (leb (length (listOf (lists t) m)) most) refl
+  listed-short = go (sound t) (leb m lastMission) (leb (length (listOf (lists t) m)) mostNames) refl
     where
       go : (fine inside few : Bool) → leb m lastMission ≡ inside
           → Each (λ w. length w ≤ longest) (cond (fine && inside) (cond few (listOf (lists t) m) []) [])

@@ -15,7 +15,7 @@ use Rattle.letters.specs.Letters.{letters}
 use Rattle.letters.specs.LetterSet.{flag, sumOf}
 use Rattle.letters.proofs.LetterSet.{sum-agree, sum-none, sum-except, except, letter-le-sum, First, first-of-sum}
 use Rattle.sets.specs.Below.{total}
-use Rattle.sets.specs.Cut.{most}
+use Rattle.sets.specs.Cut.{mostNames}
 use Rattle.sets.proofs.Below.{total-skip}
 use Rattle.rows.specs.Table.{Table, rowCount, start, target, ends}
 use Rattle.rows.specs.Walk.{hasArc}
@@ -30,7 +30,7 @@ use Rattle.listing.specs.Steps.{Listable, Leads}
 
 -- the names of a mission are listed from its start
 pub start-listable : {t : Table} {counts : List ℕ} (m : ℕ) {r : ℕ} → Counts t counts × Counted t counts (start t m) → r ≡ start t m
-    → length (names t m) ≤ most → Listable t counts r
+    → length (names t m) ≤ mostNames → Listable t counts r
 start-listable m c e few = rw e (record { counted = c .0; row = c .1; few = few })
 
 -- the array has the number of words from a row

@@ -8,7 +8,7 @@ use lib.ListN.{length, drop}
 use Rattle.letters.specs.Letters.{lineEnd}
 use Rattle.letters.specs.Words.{Word, bytesOf}
 use Rattle.sets.specs.Sets.{Words}
-use Rattle.sets.specs.Cut.{most}
+use Rattle.sets.specs.Cut.{mostNames}
 use Rattle.model.specs.Lists.{lastMission, listOf}
 use Rattle.model.specs.Call.{overlaid}
 use Rattle.rows.specs.Table.{Table}
@@ -36,7 +36,7 @@ lineIn size w = lines (fitting size (w ∷ []))
 
 -- nothing of a list that "has over 60,000 names"
 abbrev pub unlessOver : Words → Words
-unlessOver l = cond (leb (length l) most) l []
+unlessOver l = cond (leb (length l) mostNames) l []
 
 -- the mission's list; nothing of a book that is not sound, or of a mission over 15
 unfoldable pub listed : Table → ℕ → Words

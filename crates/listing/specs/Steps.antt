@@ -4,7 +4,7 @@ use mathlib.Core.Path.{_≡_}
 use mathlib.Core.List.{List}
 use lib.ListN.{length}
 use Rattle.letters.specs.Letters.{letters}
-use Rattle.sets.specs.Cut.{most}
+use Rattle.sets.specs.Cut.{mostNames}
 use Rattle.rows.specs.Table.{Table, target}
 use Rattle.rows.specs.Words.{words}
 use Rattle.counting.specs.Ahead.{ahead}
@@ -15,7 +15,7 @@ use Rattle.listing.specs.declared.word.Step.{Step}
 pub record Listable (t : Table) (counts : List ℕ) (r : ℕ) : Type 0 where
   pub counted : Counts t counts
   pub row : Counted t counts r
-  pub few : length (words t r) ≤ most
+  pub few : length (words t r) ≤ mostNames
 
 -- the word with n words before it begins with the letter, and the rest of it has `left` words before it at the letter's target
 pub record Leads (t : Table) (r n : ℕ) (step : Step) : Type 0 where

@@ -1,6 +1,6 @@
 // A piece of a mission's list: names, each followed by 0x0A, one after another.
 use super::word::write_word;
-use counting::MOST;
+use counting::MOST_NAMES;
 use counting::count_at;
 use counting::count_names;
 use letters::LINE_END;
@@ -68,7 +68,7 @@ fn list_mission(t: &[u16], m: usize, n: u32, out: &mut [u8]) -> Piece
     ensures { λ p. ⌜ Written (fitting (length (now (out .entry))) (drop n (unlessOver (names (now (t .entry)) m)))) (now (out .entry)) (now (out .exit)) p ⌝ }
 {
     let mut counts = [0u16; MOST_ROWS];
-    if MOST < count_names(t, m, &mut counts) {
+    if MOST_NAMES < count_names(t, m, &mut counts) {
         return Piece { names: 0, bytes: 0 };
     }
     let r = start(t, m) as usize;

@@ -11,7 +11,7 @@ use mathlib.Core.List.{[], _∷_}
 use lib.ListN.{length, getD, length-map, List·getD-map}
 use Rattle.letters.specs.Words.{Word, Spelled}
 use Rattle.sets.specs.Sets.{member}
-use Rattle.sets.specs.Automata.{Once, size, isState, end, leads, accepts, Languages, acyclic, reachable, equivalent}
+use Rattle.sets.specs.Automata.{Once, size, isState, end, leads, inLanguage, Languages, acyclic, reachable, equivalent}
 use Rattle.sets.proofs.Membership.{In, listed-in, in-listed, not-listed, each-in, getD-in, in-getD}
 use Rattle.sets.proofs.Sets.{member-each, plain-ext}
 use Rattle.sets.proofs.Residuals.{member-after}
@@ -45,13 +45,13 @@ module _ (t : Table) where
   automaton-once = apart-once (automaton t .states) (those-apart (λ r. inUse t r) (rowCount t))
 
 module _ (t : Table) (tidy : Tidy t) where
-  none-accepts : (w : Word) (n : ℕ) → n ≡ 0 → accepts (automaton t) w n ≡ member w (words t n)
+  none-accepts : (w : Word) (n : ℕ) → n ≡ 0 → inLanguage (automaton t) w n ≡ member w (words t n)
   unfolding member
   none-accepts w n e =
       let none = not-listed 0 (automaton t .states) (λ i. omega (arith, state-in t i .positive)) in
       rw (e, words-none t 0 refl) (none-accepted (automaton t) 0 none w)
 
-  accepts-words : (w : Word) → Spelled w → (n : ℕ) → Named t n → accepts (automaton t) w n ≡ member w (words t n)
+  accepts-words : (w : Word) → Spelled w → (n : ℕ) → Named t n → inLanguage (automaton t) w n ≡ member w (words t n)
   accepts-words [] g n named =
       elim (named-cases named) [
         | inl u ↦ accepts-empty (automaton t) n (used-state t u) ∙ sym (empty-word t tidy n u)

@@ -14,11 +14,11 @@ use borrow.Author.Tests.{ltb-false, not-true}
 use Rattle.letters.specs.LetterSet.{countOf}
 use Rattle.letters.specs.Letters.{letters}
 use Rattle.sets.specs.Residuals.{after, need}
-use Rattle.rows.specs.Table.{Table, rowCount, isRow, start, mark, height, target, last, inUse}
+use Rattle.rows.specs.Table.{Table, rowCount, isRow, start, mark, height, target, number39, inUse}
 use Rattle.rows.specs.Tidy.{Used, Named, Arc, Tidy, Sound}
 use Rattle.rows.specs.Words.{words, lists}
 use Rattle.rows.proofs.Facts.{row-inside, inside-row, in-use-used, used-in-use, named-cases, target-named, by-height}
-use Rattle.rows.proofs.Cells.{free-height, free-target, free-last}
+use Rattle.rows.proofs.Cells.{free-height, free-target, free-number39}
 use Rattle.rows.proofs.Words.{words-target, mark-word, has-word, filled-used, same-words}
 use Rattle.rows.proofs.Books.{list-names}
 use Rattle.minimal.specs.Renumbered.{Renumbered}
@@ -137,8 +137,8 @@ module _ (t u : Table) (tidy : Tidy t) (neat : Tidy u) (r s : ℕ) (row : isRow 
       matched-number height free-height
       (λ p q e. omega (arith, no-higher t u tidy neat r s p q e, no-higher u t neat tidy s r q p (sym e)))
 
-  matched-last : Matched t u r s → last u s ≡ last t r
-  matched-last = matched-number last free-last (λ p q e. neat .lasts s q ∙ sym (tidy .lasts r p))
+  matched-number39 : Matched t u r s → number39 u s ≡ number39 t r
+  matched-number39 = matched-number number39 free-number39 (λ p q e. neat .numbers39 s q ∙ sym (tidy .numbers39 r p))
 
 -- a row of u for each of t
 record Across (t u : Table) : Type 0 where
@@ -202,5 +202,5 @@ matched-renumbered t u sound other long same =
       marks = λ r row. matched-mark t u tidy neat r _ row (there .forth r row);
       heights = λ r row. matched-height t u tidy neat r _ row (there .forth r row);
       targets = λ r x row h. there .only (target t r x) _ (matched-target t u tidy neat r _ x row h (there .forth r row));
-      lasts = λ r row. matched-last t u tidy neat r _ row (there .forth r row);
+      numbers39 = λ r row. matched-number39 t u tidy neat r _ row (there .forth r row);
     }

@@ -17,13 +17,13 @@ use Rattle.sets.specs.Residuals.{states}
 use Rattle.sets.proofs.Membership.{In}
 use Rattle.sets.proofs.Sets.{plain-ext}
 use Rattle.model.specs.Lists.{missions}
-use Rattle.rows.specs.Table.{Table, width, isRow, start, mark, height, target, last, room, usedRows}
+use Rattle.rows.specs.Table.{Table, width, isRow, start, mark, height, target, number39, room, usedRows}
 use Rattle.rows.specs.Walk.{accepts}
 use Rattle.rows.specs.Words.{words, lists}
 use Rattle.rows.specs.Tidy.{Used, Named, Arc, Tidy, Pointed, Sound}
 use Rattle.rows.specs.Growth.{Useful}
 use Rattle.rows.proofs.Facts.{row-inside, inside-row, no-row, used-row, named-cases, target-named}
-use Rattle.rows.proofs.Cells.{forty, free-height, free-target, free-last}
+use Rattle.rows.proofs.Cells.{forty, free-height, free-target, free-number39}
 use Rattle.rows.proofs.Walk.{none-accepted, accepts-empty, accepts-step}
 use Rattle.rows.proofs.Words.{words-plain, member-words}
 use Rattle.rows.proofs.Books.{lists-sixteen, list-names}
@@ -96,7 +96,7 @@ module _ (t u : Table) (by : Renumbered t u) where
         let free : mark t r ≡ 0 = sym (by .marks r row) ∙ e in
         forty u (to r) (λ n. n ≡ 0) e (by .heights r row ∙ free-height t tidy r row free)
         (λ x h. by .targets r x row h ∙ (ap (by .to) (free-target t tidy r row free x h) ∙ by .none))
-        (by .lasts r row ∙ free-last t tidy r row free)
+        (by .numbers39 r row ∙ free-number39 t tidy r row free)
 
     -- rows of u "agree in mark and all 37 targets"
     abbrev Alike : ℕ → ℕ → Type 0
@@ -132,7 +132,7 @@ module _ (t u : Table) (by : Renumbered t u) where
               each-used (λ s. ((x : ℕ) → Arc u s x → height u (target u s x) < top) → height u s ≤ top)
               (λ r p f. rw (to-height p) (tidy .tight r top p (λ x a. rw (target-height a) at (f x (arc-to a))))) s;
           low = each-used (λ s. height u s ≤ longest) (λ r p. rw (to-height p) (tidy .low r p));
-          lasts = each-used (λ s. last u s ≡ 0) (λ r p. by .lasts r (used-row p) ∙ tidy .lasts r p);
+          numbers39 = each-used (λ s. number39 u s ≡ 0) (λ r p. by .numbers39 r (used-row p) ∙ tidy .numbers39 r p);
           arc = each-used (λ s. mark u s ≡ 1 → (x : ℕ) × Arc u s x)
               (λ r p e. let (x, a) = tidy .arc r p (sym (by .marks r (used-row p)) ∙ e) in (x, arc-to a));
           apart = λ r s p q e f.

@@ -109,7 +109,7 @@ renumbered-self t =
       marks = λ r e. refl;
       heights = λ r e. refl;
       targets = λ r x e h. refl;
-      lasts = λ r e. refl;
+      numbers39 = λ r e. refl;
     }
 
 -- Sound books of one length with the same lists differ in nothing but the order of their state rows.

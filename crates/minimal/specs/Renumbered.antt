@@ -5,7 +5,7 @@ use mathlib.Core.Bool.{true}
 use lib.ListN.{length, getD}
 use Rattle.letters.specs.Letters.{letters}
 use Rattle.model.specs.Lists.{missions}
-use Rattle.rows.specs.Table.{Table, width, isRow, start, mark, height, target, last}
+use Rattle.rows.specs.Table.{Table, width, isRow, start, mark, height, target, number39}
 
 -- u is t with its state rows in another order: a one-to-one map of the state rows carries the starts and all forty numbers of each row
 pub record Renumbered (t u : Table) : Type 0 where
@@ -25,4 +25,4 @@ pub record Renumbered (t u : Table) : Type 0 where
   pub marks : (r : ℕ) → isRow t r ≡ true → mark u (to r) ≡ mark t r
   pub heights : (r : ℕ) → isRow t r ≡ true → height u (to r) ≡ height t r
   pub targets : (r x : ℕ) → isRow t r ≡ true → x < letters → target u (to r) x ≡ to (target t r x)
-  pub lasts : (r : ℕ) → isRow t r ≡ true → last u (to r) ≡ last t r
+  pub numbers39 : (r : ℕ) → isRow t r ≡ true → number39 u (to r) ≡ number39 t r

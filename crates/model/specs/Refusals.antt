@@ -8,7 +8,7 @@ use Rattle.letters.specs.Names.{longest, isName, isPrefix}
 use Rattle.letters.specs.Lists.{isList}
 use Rattle.sets.specs.Sets.{Words}
 use Rattle.sets.specs.Residuals.{need}
-use Rattle.sets.specs.Cut.{most}
+use Rattle.sets.specs.Cut.{mostNames}
 use Rattle.model.specs.Lists.{lastMission, listOf, hasNames}
 use Rattle.model.specs.Call.{Book}
 
@@ -62,7 +62,7 @@ notEmpty b m = record { number = 8; applies = hasNames (listOf (b .lists) m) }
 
 -- 9: "the list has over 60,000 names"
 abbrev pub tooMany : Book → ℕ → Refusal
-tooMany b m = record { number = 9; applies = ltb most (length (listOf (b .lists) m)) }
+tooMany b m = record { number = 9; applies = ltb mostNames (length (listOf (b .lists) m)) }
 
 -- 10: "n is not under the count"
 abbrev pub notUnder : Book → ℕ → ℕ → Refusal

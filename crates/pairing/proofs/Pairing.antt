@@ -30,10 +30,10 @@ use Rattle.rows.proofs.Growth.{mark-kept, height-kept, used-kept, named-kept, w
 use Rattle.growing.specs.Rows.{endMark}
 use Rattle.growing.specs.declared.makes.Made.{Made}
 use Rattle.growing.specs.declared.makes.Made.the-variants.{Row, Full}
-use Rattle.growing.specs.Growing.{MadeRow, Targets}
+use Rattle.growing.specs.Growing.{MadeRow, TargetsMade}
 use Rattle.growing.proofs.Growing.{Within, within-after, grows-self}
 use Rattle.growing.proofs.Targets.{end-marked, targets-none, targets-more, targets-full, targets-fit, over-words, targets-made}
-use Rattle.pairing.specs.Pairs.{orNone, isAtOnce, atOnce, pairMark, Pair, Both, Pairs, Wide, entry, known, kept, Settles, Settled, Ready, Combines}
+use Rattle.pairing.specs.Pairs.{orNone, isAtOnce, atOnce, pairMark, Pair, Both, Pairs, Wide, entry, known, kept, Result, Results, Ready, Combines}
 
 -- the words of a pair
 abbrev wanted : ℕ → Table → ℕ → ℕ → Words
@@ -45,7 +45,7 @@ none-entered zero m p q = refl
 none-entered (suc n) m zero q = zero-cell m q
 none-entered (suc n) m (suc p) q = none-entered n m p q
 
-pub none-settled : (op : ℕ) (t : Table) (lanes : ℕ) → rowCount t ≤ lanes → Settled op t (replicate lanes (replicate mostRows 0))
+pub none-settled : (op : ℕ) (t : Table) (lanes : ℕ) → rowCount t ≤ lanes → Results op t (replicate lanes (replicate mostRows 0))
 none-settled op t lanes enough =
     let none : List ℕ = replicate mostRows 0 in
     record {
@@ -55,7 +55,7 @@ none-settled op t lanes enough =
     }
 
 -- the table of pairs with one pair more
-module _ {op : ℕ} {t : Table} {seen : Pairs} (before : Settled op t seen) (p q r : ℕ) (few : (p < length seen) × (p < mostRows) × (q < mostRows)) where
+module _ {op : ℕ} {t : Table} {seen : Pairs} (before : Results op t seen) (p q r : ℕ) (few : (p < length seen) × (p < mostRows) × (q < mostRows)) where
   row-kept : getD (kept seen p q r) p [] ≡ set (getD seen p []) q (suc r)
   row-kept = getD-set-same seen p _ [] (few .0)
 
@@ -79,13 +79,13 @@ module _ {op : ℕ} {t : Table} {seen : Pairs} (before : Settled op t seen) (p q
         | no e ↦ rw (getD-set-other seen p a _ [] e)
       ]
 
-  settled-more : Settles op t p q r → Settled op t (kept seen p q r)
+  settled-more : Result op t p q r → Results op t (kept seen p q r)
   settled-more new = record { rows = rw long-kept (before .rows); wide = wide-kept; settled = settled }
     where
-      old : (a b s : ℕ) → entry (kept seen p q r) a b ≡ suc s → (a ≡ p → b ≡ q → ⊥) → Settles op t a b s
+      old : (a b s : ℕ) → entry (kept seen p q r) a b ≡ suc s → (a ≡ p → b ≡ q → ⊥) → Result op t a b s
       old a b s e other = before .settled a b s (sym (entry-other a b other) ∙ e)
 
-      settled : (a b s : ℕ) → entry (kept seen p q r) a b ≡ suc s → Settles op t a b s
+      settled : (a b s : ℕ) → entry (kept seen p q r) a b ≡ suc s → Result op t a b s
       settled a b s e =
           elim (ℕ-discrete a p) [
             | yes d ↦ elim (ℕ-discrete b q) [
@@ -96,7 +96,7 @@ module _ {op : ℕ} {t : Table} {seen : Pairs} (before : Settled op t seen) (p q
           ]
 
 -- the numbers of two rows are those of a table of pairs
-pub rows-few : {op : ℕ} {t : Table} {seen : Pairs} {p q : ℕ} → Pair t p q → Settled op t seen
+pub rows-few : {op : ℕ} {t : Table} {seen : Pairs} {p q : ℕ} → Pair t p q → Results op t seen
     → (p < length seen) × (p < mostRows) × (q < mostRows)
 rows-few {t} {p} {q} rows settled =
     let first = named-inside t (rows .tidy) p (rows .first) in
@@ -108,7 +108,7 @@ module _ {t u : Table} (tidy : Tidy t) (grown : Grown t u) where
   wanted-kept : (op : ℕ) {p q : ℕ} → Named t p → Named t q → wanted op u p q ≡ wanted op t p q
   wanted-kept op {p} {q} first second = rw (words-kept t u grown tidy p first, words-kept t u grown tidy q second)
 
-  settles-kept : {op p q r : ℕ} → Settles op t p q r → Settles op u p q r
+  settles-kept : {op p q r : ℕ} → Result op t p q r → Result op u p q r
   settles-kept {op} {p} {q} {r} s =
       record {
         first = named-kept t u grown p (s .first);
@@ -117,7 +117,7 @@ module _ {t u : Table} (tidy : Tidy t) (grown : Grown t u) where
         has = words-kept t u grown tidy r (s .named) ∙ s .has ∙ sym (wanted-kept op (s .first) (s .second));
       }
 
-  pub settled-kept : {op : ℕ} {seen : Pairs} → Settled op t seen → Settled op u seen
+  pub settled-kept : {op : ℕ} {seen : Pairs} → Results op t seen → Results op u seen
   settled-kept s =
       record {
         rows = rw (grown .long) (s .rows);
@@ -126,7 +126,7 @@ module _ {t u : Table} (tidy : Tidy t) (grown : Grown t u) where
       }
 
 -- the row of a settled pair is there
-pub settles-made : {most op : ℕ} {t : Table} {seen : Pairs} {p q r : ℕ} → Tidy t → Settled op t seen → Settles op t p q r
+pub settles-made : {most op : ℕ} {t : Table} {seen : Pairs} {p q r : ℕ} → Tidy t → Results op t seen → Result op t p q r
     → Combines most t t seen op p q (Row r)
 settles-made {t} tidy settled s =
     record {
@@ -144,12 +144,12 @@ pub ready-pair : {t : Table} {seen : Pairs} {op p q : ℕ} {ts : List ℕ} → R
 ready-pair ready = record { tidy = ready .tidy; first = λ _. ready .first; second = λ _. ready .second }
 
 -- the row of a pair is made, and kept
-pub row-made : {most op : ℕ} {t u : Table} {seen : Pairs} {p q r : ℕ} → Pair t p q → Settled op t seen → MadeRow most t u (wanted op t p q) r
+pub row-made : {most op : ℕ} {t u : Table} {seen : Pairs} {p q r : ℕ} → Pair t p q → Results op t seen → MadeRow most t u (wanted op t p q) r
     → Combines most t u (kept seen p q r) op p q (Row r)
 row-made {op} {t} {u} {p} {q} {r} rows settled made =
     let tidy = rows .tidy in
     let grown = made .grows .grown in
-    let new : Settles op u p q r =
+    let new : Result op u p q r =
     record {
       first = named-kept t u grown p (rows .first);
       second = named-kept t u grown q (rows .second);
@@ -161,7 +161,7 @@ row-made {op} {t} {u} {p} {q} {r} rows settled made =
 module _ {op : ℕ} {t : Table} {p q : ℕ} (rows : Pair t p q) where
   -- a row and itself, or a row and none
   or-none-settles : (a b : Bool) (r : ℕ) → Named t r → words t p ≡ cond a (words t r) [] → words t q ≡ cond b (words t r) []
-      → Settles op t p q (orNone (chosen op a b) r)
+      → Result op t p q (orNone (chosen op a b) r)
   or-none-settles a b r named d e =
       record {
         first = rows .first;
@@ -174,7 +174,7 @@ module _ {op : ℕ} {t : Table} {p q : ℕ} (rows : Pair t p q) where
       or-none true = refl
       or-none false = words-none t 0 (no-row t 0 refl)
 
-  at-once-settles : isAtOnce p q ≡ true → Settles op t p q (atOnce op p q)
+  at-once-settles : isAtOnce p q ≡ true → Result op t p q (atOnce op p q)
   at-once-settles once =
       elim (ℕ-discrete p 0) [
         | yes e ↦ rw (eq-eqb p 0 e) (or-none-settles false true q (rows .second) (words-none t p (no-row t p e)) refl)
@@ -186,12 +186,12 @@ module _ {op : ℕ} {t : Table} {p q : ℕ} (rows : Pair t p q) where
         ])
       ]
 
-  module _ {seen : Pairs} (settled : Settled op t seen) where
+  module _ {seen : Pairs} (settled : Results op t seen) where
     -- a pair of which something is known is settled
-    pub known-settles : (r : ℕ) → known seen op p q ≡ suc r → Settles op t p q r
+    pub known-settles : (r : ℕ) → known seen op p q ≡ suc r → Result op t p q r
     known-settles r = go (isAtOnce p q) refl
       where
-        go : (b : Bool) → isAtOnce p q ≡ b → cond b (suc (atOnce op p q)) (entry seen p q) ≡ suc r → Settles op t p q r
+        go : (b : Bool) → isAtOnce p q ≡ b → cond b (suc (atOnce op p q)) (entry seen p q) ≡ suc r → Result op t p q r
         go true once e = let same : atOnce op p q ≡ r = omega arith in rw same at (at-once-settles once)
         go false _ e = settled .settled p q r e
 
@@ -216,11 +216,11 @@ module _ {op : ℕ} {t : Table} {p q : ℕ} (rows : Pair t p q) where
 
 -- the table has grown from t to u: the pairs of the targets are settled for the letters below x
 pub record SoFar (op : ℕ) (t : Table) (p q : ℕ) (u : Table) (seen : Pairs) (ts : List ℕ) (x : ℕ) : Type 0 where
-  pub settled : Settled op u seen
-  pub targets : Targets t u (wanted op t p q) (λ y. cond (ltb y x) (after y (wanted op t p q)) []) ts
+  pub settled : Results op u seen
+  pub targets : TargetsMade t u (wanted op t p q) (λ y. cond (ltb y x) (after y (wanted op t p q)) []) ts
 
 module _ {op : ℕ} {t : Table} {p q : ℕ} (rows : Both t p q) where
-  pub none-yet : {seen : Pairs} → Settled op t seen → SoFar op t p q t seen (replicate letters 0) 0
+  pub none-yet : {seen : Pairs} → Results op t seen → SoFar op t p q t seen (replicate letters 0) 0
   none-yet settled =
       let none = targets-none t (rows .tidy) (wanted op t p q) in
       record {

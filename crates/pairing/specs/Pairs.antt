@@ -61,28 +61,28 @@ abbrev pub kept : Pairs → ℕ → ℕ → ℕ → Pairs
 kept seen p q r = set seen p (set (getD seen p []) q (suc r))
 
 -- row r has the words of the pair
-pub record Settles (op : ℕ) (t : Table) (p q r : ℕ) : Type 0 where
+pub record Result (op : ℕ) (t : Table) (p q r : ℕ) : Type 0 where
   pub first : Named t p
   pub second : Named t q
   pub named : Named t r
   pub has : words t r ≡ combined op (words t p) (words t q)
 
 -- "The result of a pair of rows is settled": every row that is kept has the words of its pair
-pub record Settled (op : ℕ) (t : Table) (seen : Pairs) : Type 0 where
+pub record Results (op : ℕ) (t : Table) (seen : Pairs) : Type 0 where
   pub rows : rowCount t ≤ length seen
   pub wide : Wide seen
-  pub settled : (p q r : ℕ) → entry seen p q ≡ suc r → Settles op t p q r
+  pub settled : (p q r : ℕ) → entry seen p q ≡ suc r → Result op t p q r
 
 -- everything is there for the row of a pair of rows in use
 pub record Ready (t : Table) (seen : Pairs) (op p q : ℕ) (targets : List ℕ) : Type 0 where
   pub tidy : Tidy t
   pub first : Used t p
   pub second : Used t q
-  pub settled : Settled op t seen
+  pub settled : Results op t seen
   pub fitting : Fitting t (pairMark t op p q) targets
   pub over : wordsOver t (pairMark t op p q) targets ≡ combined op (words t p) (words t q)
 
 -- what is promised of the row of a pair, with at most so many rows more in use
 pub record Combines (most : ℕ) (t u : Table) (seen : Pairs) (op p q : ℕ) (made : Made) : Type 0 where
   pub makes : Makes most t u (combined op (words t p) (words t q)) made
-  pub settled : Settled op u seen
+  pub settled : Results op u seen

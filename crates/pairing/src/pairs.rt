@@ -20,7 +20,7 @@ ghost use Rattle.rows.specs.Words.{words};
 ghost use Rattle.rows.specs.Tidy.{Used};
 ghost use Rattle.index.specs.Index.{Indexed};
 ghost use Rattle.growing.specs.Growing.{Makes};
-ghost use Rattle.pairing.specs.Pairs.{pairMark, Pair, Both, Wide, known, Settled, Ready, Combines};
+ghost use Rattle.pairing.specs.Pairs.{pairMark, Pair, Both, Wide, known, Results, Ready, Combines};
 
 // The mark of the row for the pair: a name may end there if the operation chooses the empty word.
 fn pair_mark(t: &[u16], op: u32, p: usize, q: usize) -> u16
@@ -73,7 +73,7 @@ fn new_pair(
     p: u16,
     q: u16,
 ) -> Made
-    requires { ⌜ Both (now t) p q × Settled op (now t) (now seen) × Indexed (now t) (now index) ⌝ }
+    requires { ⌜ Both (now t) p q × Results op (now t) (now seen) × Indexed (now t) (now index) ⌝ }
     ensures combines { λ made. ⌜ Combines (rowCount (now (t .entry))) (now (t .entry)) (now (t .exit)) (now (seen .exit)) op p q made ⌝ }
     ensures indexed { λ _. ⌜ Indexed (now (t .exit)) (now (index .exit)) ⌝ }
 {
@@ -106,7 +106,7 @@ fn pair(
     p: u16,
     q: u16,
 ) -> Made
-    requires { ⌜ Pair (now t) p q × Settled op (now t) (now seen) × Indexed (now t) (now index) ⌝ }
+    requires { ⌜ Pair (now t) p q × Results op (now t) (now seen) × Indexed (now t) (now index) ⌝ }
     ensures combines { λ made. ⌜ Combines (rowCount (now (t .entry))) (now (t .entry)) (now (t .exit)) (now (seen .exit)) op p q made ⌝ }
     ensures indexed { λ _. ⌜ Indexed (now (t .exit)) (now (index .exit)) ⌝ }
 {

@@ -9,7 +9,7 @@ use lib.ListN.{length}
 use borrow.Author.Tests.{lt-ltb, le-ltb}
 use Rattle.letters.specs.Words.{Word, bytesOf}
 use Rattle.letters.specs.Names.{longest}
-use Rattle.sets.specs.Cut.{most, cut}
+use Rattle.sets.specs.Cut.{mostNames, cut}
 use Rattle.sets.proofs.Membership.{getD-in, each-in}
 use Rattle.model.specs.Lists.{missions, listOf, nthOf}
 use Rattle.model.specs.Call.{Outcome, overlaid}
@@ -31,13 +31,13 @@ list-words t m r h e = rw e (list-names t m h)
 
 -- "the list has over 60,000 names", by the number of its names, cut
 module _ (t : Table) (m k : ℕ) (h : m < missions) (e : k ≡ cut (length (names t m))) where
-  pub names-over : most < k → ltb most (length (listOf (lists t) m)) ≡ true
-  names-over over = rw (list-names t m h) (lt-ltb most (length (names t m)) (omega arith))
+  pub names-over : mostNames < k → ltb mostNames (length (listOf (lists t) m)) ≡ true
+  names-over over = rw (list-names t m h) (lt-ltb mostNames (length (names t m)) (omega arith))
 
-  pub names-under : k ≤ most → ltb most (length (listOf (lists t) m)) ≡ false
-  names-under under = rw (list-names t m h) (le-ltb most (length (names t m)) (omega arith))
+  pub names-under : k ≤ mostNames → ltb mostNames (length (listOf (lists t) m)) ≡ false
+  names-under under = rw (list-names t m h) (le-ltb mostNames (length (names t m)) (omega arith))
 
-  pub names-exact : k ≤ most → k ≡ length (listOf (lists t) m)
+  pub names-exact : k ≤ mostNames → k ≡ length (listOf (lists t) m)
   names-exact under = rw (list-names t m h) (omega arith)
 
 pub name-short : (t : Table) (r n : ℕ) → n < length (words t r) → length (nthOf n (words t r)) ≤ longest

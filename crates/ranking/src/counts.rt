@@ -3,7 +3,7 @@ use admitting::Admission;
 use admitting::admit;
 use answers::Answer;
 use answers::Refusal;
-use counting::MOST;
+use counting::MOST_NAMES;
 use counting::count_names;
 use rows::MOST_ROWS;
 ghost use Prim.Native.Nat.{_<_};
@@ -21,7 +21,7 @@ fn count_list(t: &[u16], m: usize) -> Answer
 {
     let mut counts = [0u16; MOST_ROWS];
     let names = count_names(t, m, &mut counts);
-    if MOST < names {
+    if MOST_NAMES < names {
         return Answer::Refused(Refusal::TooMany);
     }
     Answer::Done(names as u32)

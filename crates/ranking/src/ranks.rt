@@ -3,7 +3,7 @@ use admitting::Admission;
 use admitting::admit;
 use answers::Answer;
 use answers::Refusal;
-use counting::MOST;
+use counting::MOST_NAMES;
 use counting::count_names;
 use counting::rank_from;
 use letters::is_name;
@@ -24,7 +24,7 @@ fn rank_in_list(t: &[u16], m: usize, name: &[u8]) -> Answer
     ensures { λ a. ⌜ Answers (now (t .entry)) (rank m (now (name .entry))) a ⌝ }
 {
     let mut counts = [0u16; MOST_ROWS];
-    if MOST < count_names(t, m, &mut counts) {
+    if MOST_NAMES < count_names(t, m, &mut counts) {
         return Answer::Refused(Refusal::TooMany);
     }
     let r = start(t, m) as usize;

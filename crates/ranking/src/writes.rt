@@ -3,7 +3,7 @@ use admitting::Admission;
 use admitting::admit;
 use answers::Answer;
 use answers::Refusal;
-use counting::MOST;
+use counting::MOST_NAMES;
 use counting::count_names;
 use letters::LONGEST;
 use listing::write_word;
@@ -25,7 +25,7 @@ fn nth_in_list(t: &[u16], m: usize, n: u32, out: &mut [u8]) -> Answer
 {
     let mut counts = [0u16; MOST_ROWS];
     let names = count_names(t, m, &mut counts);
-    if MOST < names {
+    if MOST_NAMES < names {
         return Answer::Refused(Refusal::TooMany);
     }
     if names as u32 <= n {

@@ -31,18 +31,18 @@ use Rattle.chains.specs.Chains.{Latest}
 use Rattle.chains.specs.Orders.{level}
 use Rattle.chains.proofs.Chains.{latest-here}
 use Rattle.chains.proofs.Levels.{used-level}
-use Rattle.reaching.specs.Marks.{Pointed, Marks, Roots, SpreadTo, Spreads, marked, left, rootsOf}
+use Rattle.reaching.specs.Marks.{Pointed, Marks, Roots, SpreadTo, Spreads, marked, turn, rootsOf}
 use Rattle.reaching.proofs.Marking.{marked-more, marks-same, roots-more, roots-none}
 
 -- a row whose turn has come by this one had it before, or has it now
-turn-cases : (h k r s : ℕ) → r < mostRows → s < mostRows → left h r ≤ left k s → (left h (suc r) ≤ left k s) ⊎ (s ≡ r)
+turn-cases : (h k r s : ℕ) → r < mostRows → s < mostRows → turn h r ≤ turn k s → (turn h (suc r) ≤ turn k s) ⊎ (s ≡ r)
 turn-cases h k r s below inside early =
-    elim (ℕ-discrete (left k s) (left h r)) [ yes e ↦ inr (omega arith) | no e ↦ inl (omega arith) ]
+    elim (ℕ-discrete (turn k s) (turn h r)) [ yes e ↦ inr (omega arith) | no e ↦ inl (omega arith) ]
 
 module _ {t : Table} where
   -- where no marked row has its turn on the way, nothing is to be marked
   pub spreads-same : {from to : ℕ} {p : List ℕ} → Roots t p
-      → ((s : ℕ) → Used t s → marked p s ≡ true → to ≤ left (height t s) s → from ≤ left (height t s) s) → Spreads t from to p p
+      → ((s : ℕ) → Used t s → marked p s ≡ true → to ≤ turn (height t s) s → from ≤ turn (height t s) s) → Spreads t from to p p
   spreads-same roots earlier =
       record {
         roots = roots;
@@ -56,10 +56,10 @@ module _ {t : Table} where
 
 -- the row's turn
 module _ {t : Table} (tidy : Tidy t) {r : ℕ} {p : List ℕ} (u : Used t r) (roots : Roots t p) where
-  cases : (s : ℕ) → Used t s → left (height t r) r ≤ left (height t s) s → (left (height t r) (suc r) ≤ left (height t s) s) ⊎ (s ≡ r)
+  cases : (s : ℕ) → Used t s → turn (height t r) r ≤ turn (height t s) s → (turn (height t r) (suc r) ≤ turn (height t s) s) ⊎ (s ≡ r)
   cases s v = turn-cases (height t r) (height t s) r s (omega arith) (omega arith)
 
-  pub row-skipped : (marked p r ≡ true → ⊥) → Spreads t (left (height t r) (suc r)) (left (height t r) r) p p
+  pub row-skipped : (marked p r ≡ true → ⊥) → Spreads t (turn (height t r) (suc r)) (turn (height t r) r) p p
   row-skipped other =
       spreads-same roots (λ s v m early. elim (cases s v early) [ inl e ↦ e | inr same ↦ absurd (other (rw same at m)) ])
 
@@ -82,7 +82,7 @@ module _ {t : Table} (tidy : Tidy t) {r : ℕ} {p : List ℕ} (u : Used t r) (ro
         elim (either (pointsAt t r s) (marked p s) (sym (marked-now s s-row) ∙ e)) [ inl f ↦ inl (pointed-arc s s-row f) | inr f ↦ inr f ]
 
     -- the targets are lower than the row, so a row whose turn came before is none of them
-    was-marked : (s : ℕ) → Used t s → marked q s ≡ true → left (height t r) (suc r) ≤ left (height t s) s → marked p s ≡ true
+    was-marked : (s : ℕ) → Used t s → marked q s ≡ true → turn (height t r) (suc r) ≤ turn (height t s) s → marked p s ≡ true
     was-marked s v e earlier =
         elim (marked-cases s (used-row v) e) [
           | inl (x, a, at) ↦
@@ -91,7 +91,7 @@ module _ {t : Table} (tidy : Tidy t) {r : ℕ} {p : List ℕ} (u : Used t r) (ro
           | inr f ↦ f
         ]
 
-    pub row-spread : Spreads t (left (height t r) (suc r)) (left (height t r) r) p q
+    pub row-spread : Spreads t (turn (height t r) (suc r)) (turn (height t r) r) p q
     row-spread =
         record {
           roots = roots-more d roots (λ s s-row e. let (x, a, at) = pointed-arc s s-row e in rw at at (tidy .targets r x a));
@@ -118,7 +118,7 @@ module _ {t : Table} (tidy : Tidy t) {r : ℕ} {p : List ℕ} (u : Used t r) (ro
 -- the rows of one height, from the last on: none stands before the last one or between two that follow each other, and number 0 is no row
 module _ {t : Table} (tidy : Tidy t) (h : ℕ) {p : List ℕ} (roots : Roots t p) where
   none-between : {n r top : ℕ} → Latest (λ s. level t s) (suc h) n r → top ≤ mostRows → ((s : ℕ) → Used t s → s < top → s < n)
-      → Spreads t (left h top) (left h (suc r)) p p
+      → Spreads t (turn h top) (turn h (suc r)) p p
   none-between {n} {r} {top} latest most inside =
       spreads-same roots (λ s u m early.
       elim (ℕ-discrete (height t s) h) [
@@ -129,18 +129,18 @@ module _ {t : Table} (tidy : Tidy t) (h : ℕ) {p : List ℕ} (roots : Roots t p
         | no e ↦ omega arith
       ])
 
-  pub height-begun : {r : ℕ} → Latest (λ s. level t s) (suc h) (rowCount t) r → Spreads t (left h mostRows) (left h (suc r)) p p
+  pub height-begun : {r : ℕ} → Latest (λ s. level t s) (suc h) (rowCount t) r → Spreads t (turn h mostRows) (turn h (suc r)) p p
   height-begun latest = none-between latest (omega arith) (λ s u low. u .inside)
 
-  pub height-further : {q r : ℕ} → q ≤ mostRows → Latest (λ s. level t s) (suc h) q r → Spreads t (left h q) (left h (suc r)) p p
+  pub height-further : {q r : ℕ} → q ≤ mostRows → Latest (λ s. level t s) (suc h) q r → Spreads t (turn h q) (turn h (suc r)) p p
   height-further most latest = none-between latest most (λ s u low. low)
 
-  pub height-done : Spreads t (left h 1) (left h 0) p p
+  pub height-done : Spreads t (turn h 1) (turn h 0) p p
   height-done = spreads-same roots (λ s u m early. omega arith)
 
 -- behind the rows of a height come those of the next lower one
-pub height-next : {t : Table} {p q : List ℕ} (from h : ℕ) → 0 < h → Spreads t from (left h 0) p q → Spreads t from (left (h - 1) mostRows) p q
-height-next from h some d = let same : left h 0 ≡ left (h - 1) mostRows = omega arith in rw same at d
+pub height-next : {t : Table} {p q : List ℕ} (from h : ℕ) → 0 < h → Spreads t from (turn h 0) p q → Spreads t from (turn (h - 1) mostRows) p q
+height-next from h some d = let same : turn h 0 ≡ turn (h - 1) mostRows = omega arith in rw same at d
 
 -- the roots are the rows that are marked
 module _ (t : Table) (p : List ℕ) where
@@ -156,7 +156,7 @@ module _ (t : Table) (p : List ℕ) where
 -- from the first turn to the last
 module _ {t : Table} (tidy : Tidy t) {p : List ℕ} (roots : Roots t p) where
   -- no row is higher than the longest name, so none has had its turn
-  first-turn : SpreadTo t (rootsOf t p) (left longest mostRows) p
+  first-turn : SpreadTo t (rootsOf t p) (turn longest mostRows) p
   first-turn =
       record {
         reached = λ r row m. reached-root t tidy (rootsOf t p) (roots-named t p roots) r (in-root t p r row m) (roots .used r row m);
@@ -165,7 +165,7 @@ module _ {t : Table} (tidy : Tidy t) {p : List ℕ} (roots : Roots t p) where
       }
 
   -- a row that has an arc is higher than its target, so its turn came before those of height 0
-  pub all-spread : {q : List ℕ} → Spreads t (left longest mostRows) (left 0 mostRows) p q → Marks t (λ s. reachedFrom t (rootsOf t p) s) q
+  pub all-spread : {q : List ℕ} → Spreads t (turn longest mostRows) (turn 0 mostRows) p q → Marks t (λ s. reachedFrom t (rootsOf t p) s) q
   all-spread {q} d =
       let named = roots-named t p roots in
       let end = d .spreads (rootsOf t p) named first-turn in

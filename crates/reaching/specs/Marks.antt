@@ -35,14 +35,14 @@ pub record Roots (t : Table) (keep : List ℕ) : Type 0 where
   pub used : (r : ℕ) → isRow t r ≡ true → marked keep r ≡ true → Used t r
 
 -- the rows in the order in which their targets are marked: by falling height, and those of one height by falling number
-abbrev pub left : ℕ → ℕ → ℕ
-left height r = height * mostRows + r
+abbrev pub turn : ℕ → ℕ → ℕ
+turn height r = height * mostRows + r
 
 -- what is marked is reached from the roots, the roots are marked, and so are the targets of the marked rows whose turn came before
 pub record SpreadTo (t : Table) (roots : List ℕ) (now : ℕ) (keep : List ℕ) : Type 0 where
   pub reached : (r : ℕ) → isRow t r ≡ true → marked keep r ≡ true → reachedFrom t roots r ≡ true
   pub rooted : (r : ℕ) → List·Memᴰ r roots → Used t r → marked keep r ≡ true
-  pub before : (r x : ℕ) → Arc t r x → marked keep r ≡ true → now ≤ left (height t r) r → marked keep (target t r x) ≡ true
+  pub before : (r x : ℕ) → Arc t r x → marked keep r ≡ true → now ≤ turn (height t r) r → marked keep (target t r x) ≡ true
 
 -- marking goes on from one turn to another: the array still marks rows in use
 pub record Spreads (t : Table) (from to : ℕ) (p q : List ℕ) : Type 0 where

@@ -13,12 +13,12 @@ ghost use Rattle.rows.specs.Table.{mostRows, height};
 ghost use Rattle.rows.specs.Tidy.{Used, Tidy};
 ghost use Rattle.rows.specs.Reach.{reachedFrom, reached};
 ghost use Rattle.chains.specs.Orders.{Ordered};
-ghost use Rattle.reaching.specs.Marks.{Marks, Roots, Spreads, left, rootsOf};
+ghost use Rattle.reaching.specs.Marks.{Marks, Roots, Spreads, turn, rootsOf};
 
 // Marks the targets of the row if it is marked.
 fn spread_row(t: &[u16], r: usize, keep: &mut [u16])
     requires { ⌜ Tidy (now t) × Roots (now t) (now keep) × Used (now t) r ⌝ }
-    ensures { λ _. ⌜ Spreads (now (t .entry)) (left (height (now (t .entry)) r) (suc r)) (left (height (now (t .entry)) r) r) (now (keep .entry)) (now (keep .exit)) ⌝ }
+    ensures { λ _. ⌜ Spreads (now (t .entry)) (turn (height (now (t .entry)) r) (suc r)) (turn (height (now (t .entry)) r) r) (now (keep .entry)) (now (keep .exit)) ⌝ }
 {
     if keep[r] == 0 {
         return;
@@ -29,7 +29,7 @@ fn spread_row(t: &[u16], r: usize, keep: &mut [u16])
 // Marks the targets of the marked rows of one height.
 fn spread_height(t: &[u16], h: usize, order: &[u16], keep: &mut [u16])
     requires { ⌜ Tidy (now t) × Roots (now t) (now keep) × (h ≤ longest) × Ordered (now t) (now order) ⌝ }
-    ensures { λ _. ⌜ Spreads (now (t .entry)) (left h mostRows) (left h 0) (now (keep .entry)) (now (keep .exit)) ⌝ }
+    ensures { λ _. ⌜ Spreads (now (t .entry)) (turn h mostRows) (turn h 0) (now (keep .entry)) (now (keep .exit)) ⌝ }
 {
     let mut r = last_at(order, h);
     while r != 0 {

@@ -9,11 +9,11 @@ use mathlib.Core.Path.{_≡_}
 use mathlib.Core.Bool.{true}
 use lib.ListN.{getD}
 use Rattle.letters.specs.Letters.{letters}
-use Rattle.rows.specs.Table.{Table, width, isRow, mark, height, target, last}
+use Rattle.rows.specs.Table.{Table, width, isRow, mark, height, target, number39}
 use Rattle.rows.specs.Tidy.{Tidy}
 use Rattle.rows.proofs.Facts.{row-inside}
 
-pub forty : (t : Table) (r : ℕ) (P : ℕ → Type 0) → P (mark t r) → P (height t r) → ((x : ℕ) → x < letters → P (target t r x)) → P (last t r)
+pub forty : (t : Table) (r : ℕ) (P : ℕ → Type 0) → P (mark t r) → P (height t r) → ((x : ℕ) → x < letters → P (target t r x)) → P (number39 t r)
     → (i : ℕ) → i < width → P (getD t (r * width + i) 0)
 forty t r P m h ts l i below =
     elim (ℕ-discrete i 0) [
@@ -38,8 +38,8 @@ module _ (t u : Table) (r : ℕ) (same : (i : ℕ) → i < width → getD u (r *
   pub same-target : (x : ℕ) → x < letters → target u r x ≡ target t r x
   same-target x h = let e : r * width + 2 + x ≡ r * width + (2 + x) = omega arith in rw e (same (2 + x) (omega arith))
 
-  pub same-last : last u r ≡ last t r
-  same-last = same 39 (omega arith)
+  pub same-number39 : number39 u r ≡ number39 t r
+  same-number39 = same 39 (omega arith)
 
 -- "a free row is forty zeros"
 module _ (t : Table) (tidy : Tidy t) (r : ℕ) (row : isRow t r ≡ true) (e : mark t r ≡ 0) where
@@ -54,5 +54,5 @@ module _ (t : Table) (tidy : Tidy t) (r : ℕ) (row : isRow t r ≡ true) (e : m
       let same : r * width + 2 + x ≡ r * width + (2 + x) = omega arith in
       rw same (free-cell (2 + x) (omega arith))
 
-  pub free-last : last t r ≡ 0
-  free-last = free-cell 39 (omega arith)
+  pub free-number39 : number39 t r ≡ 0
+  free-number39 = free-cell 39 (omega arith)

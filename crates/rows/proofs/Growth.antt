@@ -15,13 +15,13 @@ use Rattle.sets.specs.Below.{someBelow}
 use Rattle.sets.proofs.Membership.{some-agree, map-agree}
 use Rattle.sets.proofs.Below.{over-agree, below-agree}
 use Rattle.model.specs.Lists.{missions}
-use Rattle.rows.specs.Table.{Table, width, isRow, start, starts, mark, height, target, last}
+use Rattle.rows.specs.Table.{Table, width, isRow, start, starts, mark, height, target, number39}
 use Rattle.rows.specs.Words.{behind, rowWords, shortWords, words, lists}
 use Rattle.rows.specs.Tidy.{Used, Named, Tidy}
 use Rattle.rows.specs.Reach.{reachesIn, reaches, reached}
 use Rattle.rows.specs.Growth.{Grown}
 use Rattle.rows.proofs.Facts.{named-row, target-named}
-use Rattle.rows.proofs.Cells.{same-mark, same-height, same-target, same-last}
+use Rattle.rows.proofs.Cells.{same-mark, same-height, same-target, same-number39}
 use Rattle.rows.proofs.Books.{starts-named}
 
 -- tables of one length that agree in these rows, to which the targets of each belong
@@ -76,8 +76,8 @@ module _ (t u : Table) (grown : Grown t u) where
   pub target-kept : (r x : ℕ) → Used t r → x < letters → target u r x ≡ target t r x
   target-kept r x p = same-target t u r (λ i. grown .kept r i p) x
 
-  pub last-kept : (r : ℕ) → Used t r → last u r ≡ last t r
-  last-kept r p = same-last t u r (λ i. grown .kept r i p)
+  pub number39-kept : (r : ℕ) → Used t r → number39 u r ≡ number39 t r
+  number39-kept r p = same-number39 t u r (λ i. grown .kept r i p)
 
   pub used-kept : (r : ℕ) → Used t r → Used u r
   used-kept r p = record { positive = p .positive; inside = rw (grown .long) (p .inside); marked = rw (mark-kept r p) (p .marked) }

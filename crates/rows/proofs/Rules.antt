@@ -16,7 +16,7 @@ use Rattle.sets.specs.Below.{allBelow, someBelow, greatest}
 use Rattle.sets.proofs.Below.{all-below, below-all, some-below, below-some, below-greatest, greatest-least}
 use Rattle.model.specs.Lists.{missions}
 use Rattle.rows.specs.Table.{Table, width, rowCount, leastRows, mostRows, lengthOk, isRow, inUse, room, usedRows}
-use Rattle.rows.specs.Table.{start, mark, height, target, last}
+use Rattle.rows.specs.Table.{start, mark, height, target, number39}
 use Rattle.rows.specs.Rules.{everyRow, everyUsed, startOk, markOk, targetsOk, above, heightOk, hasTarget, isTarget, agree}
 use Rattle.rows.specs.Rules.{rule1, rule2, rule3, rule4, rule5, rule6, rule7, sound}
 use Rattle.rows.specs.Tidy.{Used, Arc, Pointed, Sound}
@@ -186,9 +186,9 @@ module _ (t : Table) where
       asks f = (omega (arith, bound (height t r) (f .lower), f .tight most (below most (omega arith))), f .low)
 
   says-rule3 : Says (rule3 t)
-      ((r : ℕ) → Used t r → ((x : ℕ) → Arc t r x → Used t (target t r x)) × (High r × (last t r ≡ 0)))
+      ((r : ℕ) → Used t r → ((x : ℕ) → Arc t r x → Used t (target t r x)) × (High r × (number39 t r ≡ 0)))
   unfolding rule3
-  says-rule3 = says-every-used (λ r u. says-and (says-targets r u) (says-and (says-height r u) (says-eq (last t r) 0)))
+  says-rule3 = says-every-used (λ r u. says-and (says-targets r u) (says-and (says-height r u) (says-eq (number39 t r) 0)))
 
   -- 4. a row where no name ends
   says-arc : (r : ℕ) → Used t r → Says (hasTarget t r) ((x : ℕ) × Arc t r x)
@@ -256,7 +256,7 @@ module _ (t : Table) where
               lower = λ r x a. three r (a .used) .1 .0 .lower x a;
               tight = λ r top u. three r u .1 .0 .tight top;
               low = λ r u. three r u .1 .0 .low;
-              lasts = λ r u. three r u .1 .1;
+              numbers39 = λ r u. three r u .1 .1;
               arc = four;
               apart = λ r s u v marks targets. six r s u v (marks, targets);
             };
@@ -277,7 +277,7 @@ module _ (t : Table) where
         says-length .1 (d .whole, d .least, d .most),
         says-rule1 .1 (d .starts, d .rest),
         says-rule2 .1 (d .marks, d .zeros),
-        says-rule3 .1 (λ r u. (d .targets r, (high r u, d .lasts r u))),
+        says-rule3 .1 (λ r u. (d .targets r, (high r u, d .numbers39 r u))),
         says-rule4 .1 (d .arc),
         says-rule5 .1 (s .pointed),
         says-rule6 .1 (λ r s u v a. d .apart r s u v (a .0) (a .1)),

@@ -66,7 +66,7 @@ zeros-sound t e =
             lower = λ r x a. absurd (none-used n r (a .used));
             tight = λ r top u. absurd (none-used n r u);
             low = λ r u. absurd (none-used n r u);
-            lasts = λ r u. absurd (none-used n r u);
+            numbers39 = λ r u. absurd (none-used n r u);
             arc = λ r u. absurd (none-used n r u);
             apart = λ r s u. absurd (none-used n r u);
           };

@@ -7,7 +7,7 @@ use Rattle.letters.specs.Letters.{letters}
 use Rattle.letters.specs.Names.{longest}
 use Rattle.sets.specs.Below.{allBelow, someBelow, greatest}
 use Rattle.model.specs.Lists.{missions}
-use Rattle.rows.specs.Table.{Table, width, rowCount, lengthOk, room, isRow, start, mark, height, target, last, inUse, usedRows}
+use Rattle.rows.specs.Table.{Table, width, rowCount, lengthOk, room, isRow, start, mark, height, target, number39, inUse, usedRows}
 
 -- the test passes at every state row, or at every row in use
 abbrev pub everyRow : Table → (ℕ → Bool) → Bool
@@ -54,11 +54,11 @@ above t n = cond (eqb n 0) 0 (suc (height t n))
 abbrev pub heightOk : Table → ℕ → Bool
 heightOk t r = eqb (height t r) (greatest letters (λ x. above t (target t r x))) && leb (height t r) longest
 
-abbrev pub lastOk : Table → ℕ → Bool
-lastOk t r = eqb (last t r) 0
+abbrev pub number39Ok : Table → ℕ → Bool
+number39Ok t r = eqb (number39 t r) 0
 
 abbrev pub arcsOk : Table → ℕ → Bool
-arcsOk t r = targetsOk t r && (heightOk t r && lastOk t r)
+arcsOk t r = targetsOk t r && (heightOk t r && number39Ok t r)
 
 unfoldable pub rule3 : Table → Bool
 rule3 t = everyUsed t (λ r. arcsOk t r)

@@ -68,8 +68,8 @@ abbrev pub rowTargets : Table → ℕ → List ℕ
 rowTargets t r = take letters (drop (r * width + 2) t)
 
 -- "Number 39 is 0."
-abbrev pub last : Table → ℕ → ℕ
-last t r = getD t (r * width + 39) 0
+abbrev pub number39 : Table → ℕ → ℕ
+number39 t r = getD t (r * width + 39) 0
 
 -- a name may end at the row
 abbrev pub ends : Table → ℕ → Bool

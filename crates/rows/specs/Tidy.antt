@@ -7,7 +7,7 @@ use lib.ListN.{length, getD}
 use Rattle.letters.specs.Letters.{letters}
 use Rattle.letters.specs.Names.{longest}
 use Rattle.model.specs.Lists.{missions}
-use Rattle.rows.specs.Table.{Table, width, rowCount, leastRows, mostRows, room, start, mark, height, target, last, usedRows}
+use Rattle.rows.specs.Table.{Table, width, rowCount, leastRows, mostRows, room, start, mark, height, target, number39, usedRows}
 
 -- row r is in use
 pub record Used (t : Table) (r : ℕ) : Type 0 where
@@ -42,7 +42,7 @@ pub record Tidy (t : Table) : Type 0 where
   pub lower : (r x : ℕ) → Arc t r x → height t (target t r x) < height t r
   pub tight : (r top : ℕ) → Used t r → ((x : ℕ) → Arc t r x → height t (target t r x) < top) → height t r ≤ top
   pub low : (r : ℕ) → Used t r → height t r ≤ longest
-  pub lasts : (r : ℕ) → Used t r → last t r ≡ 0
+  pub numbers39 : (r : ℕ) → Used t r → number39 t r ≡ 0
   -- 4. "A row with mark 1 has a target."
   pub arc : (r : ℕ) → Used t r → mark t r ≡ 1 → (x : ℕ) × Arc t r x
   -- 6. "No two rows in use agree in mark and all 37 targets."

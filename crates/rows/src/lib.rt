@@ -15,7 +15,7 @@ pub use table::height;
 pub use table::higher;
 pub use table::in_use;
 pub use table::is_row;
-pub use table::last;
+pub use table::number39;
 pub use table::length_ok;
 pub use table::mark;
 pub use table::room;

@@ -5,7 +5,7 @@ ghost use mathlib.Core.Path.{_≡_};
 ghost use lib.ListN.{length};
 ghost use Rattle.letters.specs.Letters.{letters};
 ghost use Rattle.letters.specs.LetterSet.{flag};
-ghost use Rattle.rows.specs.Table.{rowCount, lengthOk, room, isRow, start, mark, height, target, rowTargets, last, inUse, usedRows};
+ghost use Rattle.rows.specs.Table.{rowCount, lengthOk, room, isRow, start, mark, height, target, rowTargets, number39, inUse, usedRows};
 
 // The numbers of a row.
 pub const WIDTH: usize = 40;
@@ -112,9 +112,9 @@ pub fn targets(t: &[u16], r: usize) -> &[u16]
 }
 
 // "Number 39 is 0."
-pub fn last(t: &[u16], r: usize) -> u16
+pub fn number39(t: &[u16], r: usize) -> u16
     requires { ⌜ r < rowCount (now t) ⌝ }
-    ensures { λ n. ⌜ n ≡ last (now (t .entry)) r ⌝ }
+    ensures { λ n. ⌜ n ≡ number39 (now (t .entry)) r ⌝ }
 {
     t[r * WIDTH + 39]
 }

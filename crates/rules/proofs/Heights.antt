@@ -11,7 +11,7 @@ use Rattle.letters.specs.Names.{longest}
 use Rattle.sets.specs.Below.{someBelow, greatest}
 use Rattle.sets.proofs.Below.{all-below}
 use Rattle.rows.specs.Table.{Table, height, target, inUse}
-use Rattle.rows.specs.Rules.{ifUsed, targetsOk, above, heightOk, lastOk, arcsOk, hasTarget, rule3}
+use Rattle.rows.specs.Rules.{ifUsed, targetsOk, above, heightOk, number39Ok, arcsOk, hasTarget, rule3}
 use Rattle.rows.proofs.Facts.{in-use-used}
 
 -- of two numbers one is above 0 where the greater is
@@ -41,8 +41,8 @@ module _ (t : Table) (holds : rule3 t ≡ true) (r : ℕ) (used : inUse t r ≡ 
 
   pub height-greatest : height t r ≡ greatest letters (λ x. above t (target t r x))
   height-greatest =
-      let (_, rest) = and-eq-true-iff (targetsOk t r) (heightOk t r && lastOk t r) .0 arcs-fine in
-      let (fine, _) = and-eq-true-iff (heightOk t r) (lastOk t r) .0 rest in
+      let (_, rest) = and-eq-true-iff (targetsOk t r) (heightOk t r && number39Ok t r) .0 arcs-fine in
+      let (fine, _) = and-eq-true-iff (heightOk t r) (number39Ok t r) .0 rest in
       eqb-true (height t r) _ (and-eq-true-iff (eqb (height t r) _) (leb (height t r) longest) .0 fine .0)
 
   pub has-target : ltb 0 (height t r) ≡ hasTarget t r

@@ -10,7 +10,7 @@ use letters::LONGEST;
 use rows::height;
 use rows::higher;
 use rows::in_use;
-use rows::last;
+use rows::number39;
 use rows::mark;
 use rows::next_arc;
 use rows::row_count;
@@ -24,31 +24,31 @@ ghost use Rattle.letters.specs.Letters.{letters};
 ghost use Rattle.letters.specs.LetterSet.{flag};
 ghost use Rattle.rows.specs.Table.{rowCount, mostRows, inUse};
 ghost use Rattle.rows.specs.Rules.{ifUsed, arcsOk, rule3};
-ghost use Rattle.rules.specs.Asked.{asks};
+ghost use Rattle.rules.specs.Demand.{demands};
 ghost use Rattle.index.specs.Arcs.{arcsFrom, arcsOf, arcsTo, Adds, Few};
 ghost use Rattle.index.specs.Index.{Keyed};
 ghost use Rattle.rules.specs.Counted.{KeyedIf, Tested};
 
-// What a target asks of the height of its row, or that it is neither 0 nor a row in use.
-pub enum Asked {
+// What a target demands of the height of its row, or that it is neither 0 nor a row in use.
+pub enum Demand {
     Height(usize),
     Broken,
 }
 
-// What the target asks; an arc to a row in use is counted.
-fn follow(t: &[u16], n: usize, arcs: &mut [u16]) -> Asked
+// What the target demands; an arc to a row in use is counted.
+fn follow(t: &[u16], n: usize, arcs: &mut [u16]) -> Demand
     requires { ⌜ (rowCount (now t) ≤ length (now arcs)) × (0 < n → getD (now arcs) n 0 < mostRows * letters) ⌝ }
-    ensures asked { λ r. ⌜ r ≡ asks (now (t .entry)) n ⌝ }
+    ensures asked { λ r. ⌜ r ≡ demands (now (t .entry)) n ⌝ }
     ensures counted { λ r. ⌜ Adds (λ s. flag (inUse (now (t .entry)) n && eqb n s)) (now (arcs .entry)) (now (arcs .exit)) ⌝ }
 {
     if n == 0 {
-        return Asked::Height(0);
+        return Demand::Height(0);
     }
     if !in_use(t, n) {
-        return Asked::Broken;
+        return Demand::Broken;
     }
     arcs[n] += 1;
-    Asked::Height(height(t, n) as usize + 1)
+    Demand::Height(height(t, n) as usize + 1)
 }
 
 // One row in use.
@@ -62,7 +62,7 @@ fn arcs_ok(t: &[u16], r: usize, arcs: &mut [u16], index: &mut [u16]) -> bool
     let mut x = next_arc(t, r, 0);
     while x < LETTERS {
         let n = target(t, r, x);
-        let Asked::Height(h) = follow(t, n as usize, arcs) else {
+        let Demand::Height(h) = follow(t, n as usize, arcs) else {
             return false;
         };
         top = higher(top, h);
@@ -76,7 +76,7 @@ fn arcs_ok(t: &[u16], r: usize, arcs: &mut [u16], index: &mut [u16]) -> bool
         return false;
     }
     keep_key(index, r, key_from(m));
-    last(t, r) == 0
+    number39(t, r) == 0
 }
 
 // One row: a free one passes.

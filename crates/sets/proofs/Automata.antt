@@ -7,20 +7,20 @@ use mathlib.Core.Bool.{true, false, and-eq-true-iff}
 use mathlib.Core.List.{[], _∷_, _++_}
 use Rattle.letters.specs.Letters.{letters}
 use Rattle.letters.specs.Words.{Word}
-use Rattle.sets.specs.Automata.{Automaton, isState, end, leads, accepts, reachable}
+use Rattle.sets.specs.Automata.{Automaton, isState, end, leads, inLanguage, reachable}
 use Rattle.sets.proofs.Membership.{each-append}
 
 module _ (A : Automaton) (s : ℕ) where
-  pub none-accepted : isState A s ≡ false → (w : Word) → accepts A w s ≡ false
+  pub none-accepted : isState A s ≡ false → (w : Word) → inLanguage A w s ≡ false
   unfolding leads
   none-accepted e [] = rw e
   none-accepted e (x ∷ w) = rw e
 
-  pub accepts-empty : isState A s ≡ true → accepts A [] s ≡ A .final s
+  pub accepts-empty : isState A s ≡ true → inLanguage A [] s ≡ A .final s
   unfolding leads end
   accepts-empty e = rw e
 
-  pub accepts-step : isState A s ≡ true → (x : ℕ) (w : Word) → accepts A (x ∷ w) s ≡ accepts A w (A .arc s x)
+  pub accepts-step : isState A s ≡ true → (x : ℕ) (w : Word) → inLanguage A (x ∷ w) s ≡ inLanguage A w (A .arc s x)
   unfolding leads end
   accepts-step e x w = rw e
 

@@ -12,7 +12,7 @@ use lib.ListN.{length, getD, length-map}
 use Rattle.letters.specs.Words.{Word, Spelled}
 use Rattle.sets.specs.Sets.{Words, Filled, member}
 use Rattle.sets.specs.Residuals.{after, states, placeIn}
-use Rattle.sets.specs.Automata.{Automaton, listed, Once, accepts, Languages}
+use Rattle.sets.specs.Automata.{Automaton, among, Once, inLanguage, Languages}
 use Rattle.sets.proofs.Membership.{In}
 use Rattle.sets.proofs.Residuals.{member-after}
 use Rattle.sets.proofs.Distinct.{in-place, no-place}
@@ -28,17 +28,17 @@ pub length-below : (n : ℕ) → length (below n) ≡ n
 length-below zero = refl
 length-below (suc n) = ap suc (length-below n)
 
-listed-below : (n s : ℕ) → s < n → listed s (below n) ≡ true
-unfolding listed
+listed-below : (n s : ℕ) → s < n → among s (below n) ≡ true
+unfolding among
 listed-below zero s h = absurd (omega arith)
 listed-below (suc n) s h = go (λ g. listed-below n s g) (eqb s n) refl
   where
-    go : (s < n → listed s (below n) ≡ true) → (t : Bool) → eqb s n ≡ t → t || listed s (below n) ≡ true
+    go : (s < n → among s (below n) ≡ true) → (t : Bool) → eqb s n ≡ t → t || among s (below n) ≡ true
     go rest true e = refl
     go rest false e = rest (omega (arith, eqb-false s n e))
 
-unlisted-below : (n s : ℕ) → n ≤ s → listed s (below n) ≡ false
-unfolding listed
+unlisted-below : (n s : ℕ) → n ≤ s → among s (below n) ≡ false
+unfolding among
 unlisted-below zero s h = refl
 unlisted-below (suc n) s h = rw (ne-eqb s n (omega arith)) (unlisted-below n s (omega arith))
 
@@ -68,11 +68,11 @@ module _ (ls : List Words) where
         arc = λ s x. place (after x (at s));
       }
 
-  empty-agrees : (w : Word) → accepts machine w (place []) ≡ member w []
+  empty-agrees : (w : Word) → inLanguage machine w (place []) ≡ member w []
   unfolding member
   empty-agrees w = none-accepted machine (place []) (unlisted-below _ _ (no-place [] (states ls) (λ i. states-filled ls i))) w
 
-  place-agrees : (w : Word) → Spelled w → (k : Words) → (Filled k → In k (states ls)) → accepts machine w (place k) ≡ member w k
+  place-agrees : (w : Word) → Spelled w → (k : Words) → (Filled k → In k (states ls)) → inLanguage machine w (place k) ≡ member w k
   place-agrees [] g [] i = empty-agrees []
   place-agrees (x ∷ w) g [] i = empty-agrees (x ∷ w)
   place-agrees [] g (v ∷ vs) i =

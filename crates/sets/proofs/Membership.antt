@@ -16,7 +16,7 @@ use lib.ListN.{length, getD}
 use borrow.Author.Tests.{eqb-true, eq-eqb}
 use Rattle.letters.specs.Each.{Each, some}
 use Rattle.sets.specs.Sets.{keep}
-use Rattle.sets.specs.Automata.{listed}
+use Rattle.sets.specs.Automata.{among}
 
 -- no thing twice
 abbrev pub Apart : {A : Type 0} → List A → Type 0
@@ -32,18 +32,18 @@ pub fails : (a : Bool) → (a ≡ true → ⊥) → a ≡ false
 fails true f = absurd (f refl)
 fails false f = refl
 
-pub listed-in : (s : ℕ) (ns : List ℕ) → listed s ns ≡ true → In s ns
-unfolding listed
+pub listed-in : (s : ℕ) (ns : List ℕ) → among s ns ≡ true → In s ns
+unfolding among
 listed-in s [] e = absurd (false≢true e)
-listed-in s (n ∷ ns) e = elim (either (eqb s n) (listed s ns) e) [ inl h ↦ here (eqb-true s n h) | inr h ↦ there (listed-in s ns h) ]
+listed-in s (n ∷ ns) e = elim (either (eqb s n) (among s ns) e) [ inl h ↦ here (eqb-true s n h) | inr h ↦ there (listed-in s ns h) ]
 
-pub in-listed : {s : ℕ} {ns : List ℕ} → In s ns → listed s ns ≡ true
-unfolding listed
+pub in-listed : {s : ℕ} {ns : List ℕ} → In s ns → among s ns ≡ true
+unfolding among
 in-listed {s} (here {x = n} e) = rw (eq-eqb s n e)
 in-listed (there i) = rw (in-listed i, or-true)
 
-pub not-listed : (s : ℕ) (ns : List ℕ) → (In s ns → ⊥) → listed s ns ≡ false
-not-listed s ns none = fails (listed s ns) (λ e. none (listed-in s ns e))
+pub not-listed : (s : ℕ) (ns : List ℕ) → (In s ns → ⊥) → among s ns ≡ false
+not-listed s ns none = fails (among s ns) (λ e. none (listed-in s ns e))
 
 -- what stands in a list stands at a number
 module _ {A : Type 0} (d : A) where

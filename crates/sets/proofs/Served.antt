@@ -13,7 +13,7 @@ use Rattle.letters.specs.Words.{Word, Spelled}
 use Rattle.letters.proofs.Order.{same-refl}
 use Rattle.sets.specs.Sets.{Words, Filled, Plain, member}
 use Rattle.sets.specs.Residuals.{after, states}
-use Rattle.sets.specs.Automata.{Automaton, size, isState, accepts, Languages}
+use Rattle.sets.specs.Automata.{Automaton, size, isState, inLanguage, Languages}
 use Rattle.sets.proofs.Membership.{In, listed-in}
 use Rattle.sets.proofs.Pigeons.{pigeons}
 use Rattle.sets.proofs.Sets.{plain-ext}
@@ -29,7 +29,7 @@ plain-at (l ∷ ls) plain (suc m) = plain-at ls (plain .1) m
 -- the number, taken as a state, accepts the words of the plain set
 record Serves (A : Automaton) (k : Words) (s : ℕ) : Type 0 where
   plain : Plain k
-  agrees : (w : Word) → Spelled w → accepts A w s ≡ member w k
+  agrees : (w : Word) → Spelled w → inLanguage A w s ≡ member w k
 
 module _ (A : Automaton) where
   -- some state serves the set

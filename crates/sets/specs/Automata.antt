@@ -18,20 +18,20 @@ pub record Automaton : Type 0 where
   pub arc : ℕ → ℕ → ℕ
 
 -- is the number in the list?
-unfoldable pub listed : ℕ → List ℕ → Bool
-listed s [] = false
-listed s (r ∷ rs) = eqb s r || listed s rs
+unfoldable pub among : ℕ → List ℕ → Bool
+among s [] = false
+among s (r ∷ rs) = eqb s r || among s rs
 
 -- no number twice
 abbrev pub Once : List ℕ → Type 0
 Once [] = Unit {0}
-Once (s ∷ ss) = (listed s ss ≡ false) × Once ss
+Once (s ∷ ss) = (among s ss ≡ false) × Once ss
 
 abbrev pub size : Automaton → ℕ
 size A = length (A .states)
 
 abbrev pub isState : Automaton → ℕ → Bool
-isState A s = listed s (A .states)
+isState A s = among s (A .states)
 
 -- "The function μ is extended naturally" to words: where a word leads from a state
 unfoldable pub end : Automaton → Word → ℕ → ℕ
@@ -44,13 +44,13 @@ leads A [] s = isState A s
 leads A (x ∷ w) s = isState A s && leads A w (A .arc s x)
 
 -- Definition 2: a word is in the language of a state if it leads to a final state
-abbrev pub accepts : Automaton → Word → ℕ → Bool
-accepts A w s = leads A w s && A .final (end A w s)
+abbrev pub inLanguage : Automaton → Word → ℕ → Bool
+inLanguage A w s = leads A w s && A .final (end A w s)
 
 -- the automaton has a start for each list, and the languages of its starts are the lists
 pub record Languages (A : Automaton) (ls : List Words) : Type 0 where
   pub one-each : length (A .starts) ≡ length ls
-  pub language : (m : ℕ) → m < length ls → (w : Word) → Spelled w → accepts A w (getD (A .starts) m 0) ≡ member w (getD ls m [])
+  pub language : (m : ℕ) → m < length ls → (w : Word) → Spelled w → inLanguage A w (getD (A .starts) m 0) ≡ member w (getD ls m [])
 
 -- Definition 2: "An automaton is called acyclic when" no word but the empty one leads from a state to itself
 abbrev pub acyclic : Automaton → Type 0
@@ -65,7 +65,7 @@ pub record reachable (A : Automaton) (t s : ℕ) : Type 0 where
 
 -- Definition 3: "Two states are called equivalent when" they have the same language
 abbrev pub equivalent : Automaton → ℕ → ℕ → Type 0
-equivalent A s t = (w : Word) → Spelled w → accepts A w s ≡ accepts A w t
+equivalent A s t = (w : Word) → Spelled w → inLanguage A w s ≡ inLanguage A w t
 
 -- Theorem 5, for several starts: "every state is reachable from the starting state, from every state a final state is reachable and there are
 -- no different equivalent states"; and the automaton is acyclic

@@ -8,7 +8,7 @@ use Rattle.letters.specs.Letters.{letters}
 use Rattle.model.specs.Lists.{missions}
 use Rattle.rows.specs.Table.{Table, width, rowCount, start, mark, height, target}
 use Rattle.rows.specs.Tidy.{Used, Arc, Tidy}
-use Rattle.rows.proofs.Cells.{same-mark, same-height, same-target, same-last}
+use Rattle.rows.proofs.Cells.{same-mark, same-height, same-target, same-number39}
 
 pub record Part (t v : Table) : Type 0 where
   pub long : length v ≡ length t
@@ -59,7 +59,7 @@ module _ (t v : Table) (part : Part t v) where
             (tidy .tight r top (part .used r p)
             (λ x a. let b = part-arc r x p a in rw (target-height r x b) at (f x b)));
         low = λ r p. rw (part-height r p) (tidy .low r (part .used r p));
-        lasts = λ r p. same-last t v r (λ i. part .cells r i p) ∙ tidy .lasts r (part .used r p);
+        numbers39 = λ r p. same-number39 t v r (λ i. part .cells r i p) ∙ tidy .numbers39 r (part .used r p);
         arc = λ r p e.
             let (x, a) = tidy .arc r (part .used r p) (sym (part-mark r p) ∙ e) in
             (x, part-arc r x p a);

@@ -6,17 +6,17 @@ use mathlib.Core.Path.{_≡_, sym}
 use borrow.Author.Needs.{needs}
 use lib.ListN.{length}
 use lib.Seq.{length-take-le}
-use Rattle.sets.specs.Cut.{most}
+use Rattle.sets.specs.Cut.{mostNames}
 use Rattle.lines.proofs.Following.{following-inside}
 use Rattle.lines.proofs.Inside.{piece-inside}
 use Rattle.desk.proofs.print_names.Statement.{statement}
 use Rattle.desk.proofs.print_names.Tie as tie
 
 abbrev Inv-loop : tie.InvT-loop
-Inv-loop t line out₀ n₀ out n = (n ≤ most) × (length out ≡ length out₀)
+Inv-loop t line out₀ n₀ out n = (n ≤ mostNames) × (length out ≡ length out₀)
 
 abbrev μ-loop : tie.MeasureT-loop
-μ-loop t line out₀ n₀ out n = most - n
+μ-loop t line out₀ n₀ out n = mostNames - n
 
 loop-holds : tie.Need-loop-holds Inv-loop μ-loop
 loop-holds c = search needs
@@ -34,7 +34,7 @@ returns : tie.Need-returns Inv-loop μ-loop
 returns c = search needs
 
 -- the names of a piece end within those that are listed
-names-inside : (c : tie.After-follow Inv-loop μ-loop) → c .before .before .before .loop .n + c .follow .result .names ≤ most
+names-inside : (c : tie.After-follow Inv-loop μ-loop) → c .before .before .before .loop .n + c .follow .result .names ≤ mostNames
 names-inside c =
     let l = c .before .before .before .loop in
     let s = c .before .before .before .before .before .before .before .args in

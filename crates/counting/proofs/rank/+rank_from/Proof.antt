@@ -12,7 +12,7 @@ use lib.Seq.{take-all}
 use Rattle.letters.specs.Letters.{letters}
 use Rattle.letters.specs.Words.{Word, wordOf, rest, Spelled}
 use Rattle.letters.proofs.Words.{word-rest, rest-length, spelled-rest}
-use Rattle.sets.specs.Cut.{most}
+use Rattle.sets.specs.Cut.{mostNames}
 use Rattle.sets.specs.Sets.{keep}
 use Rattle.model.specs.Lists.{rankOf}
 use Rattle.rows.specs.Table.{Table, target}
@@ -32,7 +32,7 @@ use Rattle.counting.proofs.rank.+rank_from.{statement}
 use Rattle.counting.proofs.rank.+rank_from.Tie.{close}
 
 -- the array's numbers are exact, so they give the rank
-rank-by-counts : (t : Table) (counts : List ℕ) (c : Counts t counts) (n : ℕ) → CountedRow t counts n → length (words t n) ≤ most
+rank-by-counts : (t : Table) (counts : List ℕ) (c : Counts t counts) (n : ℕ) → CountedRow t counts n → length (words t n) ≤ mostNames
     → (x : ℕ) → x < letters → (w : Word)
     → aheadBy (λ s. countAt counts s) t n x + rankOf w (words t (target t n x)) ≡ rankOf (x ∷ w) (words t n)
 rank-by-counts t counts c n row few x h w =

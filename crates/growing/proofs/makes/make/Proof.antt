@@ -11,14 +11,14 @@ use lib.ListN.{getD}
 use Rattle.letters.specs.Letters.{letters}
 use Rattle.rows.specs.Table.{Table}
 use Rattle.index.specs.Index.{Finds}
-use Rattle.growing.specs.Rows.{heightOver, Written}
+use Rattle.growing.specs.Rows.{heightOver, NewRow}
 use Rattle.growing.proofs.Entering.{Free, first-free, written-entering}
 use Rattle.growing.proofs.Making.{height-fits, targets-inside, none-made, found-made, full-made, new-made}
 use Rattle.growing.proofs.makes.make.Statement.{statement}
 use Rattle.growing.proofs.makes.make.Tie as tie
 
 -- what was written, and what was found, by other names of the numbers
-written-as : {t u : Table} {r s k h g : ℕ} {ts : List ℕ} → r ≡ s → h ≡ g → Written t u r k h ts → Written t u s k g ts
+written-as : {t u : Table} {r s k h g : ℕ} {ts : List ℕ} → r ≡ s → h ≡ g → NewRow t u r k h ts → NewRow t u s k g ts
 written-as e d w = rw e at (rw d at w)
 
 found-none : {t : Table} {n k f : ℕ} {ts : List ℕ} → f ≡ 0 → Finds t n k ts f → Finds t n k ts 0
@@ -141,7 +141,7 @@ chosen c = c .before .before .before .before .before .before
 written : (c : tie.After-write-row) →
     let there = chosen c in
     let args = begin (joined (search-of there)) .args in
-    Written (args .t .now) (c .write-row .last .0) (getD (args .index .now) 0 0) (args .mark) (heightOver (args .t .now) (args .t4)) (args .t4)
+    NewRow (args .t .now) (c .write-row .last .0) (getD (args .index .now) 0 0) (args .mark) (heightOver (args .t .now) (args .t4)) (args .t4)
 written c =
     let there = chosen c in
     written-as (there .before .free-row .ensures) (c .before .before .before .height-over .ensures) (c .write-row .ensures)

@@ -8,13 +8,13 @@ use borrow.Author.Needs.{needs}
 use lib.ListN.{getD}
 use Rattle.letters.specs.Letters.{letters}
 use Rattle.rows.proofs.Skipping.{past}
-use Rattle.index.specs.Buckets.{mix, most}
+use Rattle.index.specs.Buckets.{mix, productBound}
 use Rattle.index.proofs.Buckets.{mix-none, mix-more, mix-zero}
 use Rattle.index.proofs.keys.key_of.Statement.{statement}
 use Rattle.index.proofs.keys.key_of.Tie as tie
 
 abbrev Inv-loop : tie.InvT-loop
-Inv-loop mark targets m₀ x₀ m x = (x ≤ letters) × (m < suc x * most) × (m ≡ mix mark (λ y. getD targets y 0) x)
+Inv-loop mark targets m₀ x₀ m x = (x ≤ letters) × (m < suc x * productBound) × (m ≡ mix mark (λ y. getD targets y 0) x)
 
 abbrev μ-loop : tie.MeasureT-loop
 μ-loop mark targets m₀ x₀ m x = letters - x

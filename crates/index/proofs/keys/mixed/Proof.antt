@@ -3,12 +3,12 @@ use Prim.Native.Nat.{ℕ, _+_, _*_, _<_}
 use mathlib.Core.Path.{ap}
 use native.Mathlib.Omega.{arith}
 use borrow.Author.Needs.{needs}
-use Rattle.index.specs.Buckets.{factor, most}
+use Rattle.index.specs.Buckets.{factor, productBound}
 use Rattle.index.proofs.Buckets.{product-small}
 use Rattle.index.proofs.keys.mixed.Statement.{statement}
 use Rattle.index.proofs.keys.mixed.Tie as tie
 
-small : (c : tie.After-factor) → c .before .args .n * c .factor .result < most
+small : (c : tie.After-factor) → c .before .args .n * c .factor .result < productBound
 small c =
     let args = c .before .args in
     rw (c .factor .ensures) (product-small (args .n) (factor (args .x)) (search needs) (omega arith))

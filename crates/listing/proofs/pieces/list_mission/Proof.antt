@@ -3,7 +3,7 @@ use Prim.Native.Nat.{_≤_}
 use native.Mathlib.Omega.{arith}
 use borrow.Author.Needs.{needs}
 use lib.ListN.{length}
-use Rattle.sets.specs.Cut.{most}
+use Rattle.sets.specs.Cut.{mostNames}
 use Rattle.rows.specs.Words.{names}
 use Rattle.listing.proofs.Steps.{start-listable}
 use Rattle.listing.proofs.Listed.{nothing-written, over-none, few-all}
@@ -23,7 +23,7 @@ returns c =
     nothing-written (s .n) (s .out .now) (over-none (names (s .t .now) (s .m)) (omega arith))
 
 -- there are no more than are counted
-few : (c : tie.Else1) → let s = c .before .before .before .before .before .before .args in length (names (s .t .now) (s .m)) ≤ most
+few : (c : tie.Else1) → let s = c .before .before .before .before .before .before .args in length (names (s .t .now) (s .m)) ≤ mostNames
 few c = let number = c .before .before .count-names .ensures .1 in omega arith
 
 start-requires : tie.Need-start-requires

@@ -10,14 +10,14 @@ use Rattle.rows.specs.Tidy.{Used}
 use Rattle.chains.specs.Chains.{Latest}
 use Rattle.chains.specs.Orders.{level, levels}
 use Rattle.chains.proofs.Levels.{last-latest, latest-row, before-latest}
-use Rattle.reaching.specs.Marks.{Spreads, left}
+use Rattle.reaching.specs.Marks.{Spreads, turn}
 use Rattle.reaching.proofs.Spreading.{spreads-both, height-begun, height-further, height-done}
 use Rattle.reaching.proofs.spreads.spread_height.Statement.{statement}
 use Rattle.reaching.proofs.spreads.spread_height.Tie as tie
 
 abbrev Inv-loop : tie.InvT-loop
 Inv-loop t h order keep₀ r₀ keep r =
-    (length keep ≡ length keep₀) × (0 < r → Used t r × (height t r ≡ h)) × Spreads t (left h mostRows) (left h (suc r)) keep₀ keep
+    (length keep ≡ length keep₀) × (0 < r → Used t r × (height t r ≡ h)) × Spreads t (turn h mostRows) (turn h (suc r)) keep₀ keep
 
 abbrev μ-loop : tie.MeasureT-loop
 μ-loop t h order keep₀ r₀ keep r = r

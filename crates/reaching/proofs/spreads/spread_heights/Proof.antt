@@ -7,14 +7,14 @@ use borrow.Author.Needs.{needs}
 use lib.ListN.{length}
 use Rattle.letters.specs.Names.{longest}
 use Rattle.rows.specs.Table.{mostRows}
-use Rattle.reaching.specs.Marks.{Spreads, left}
+use Rattle.reaching.specs.Marks.{Spreads, turn}
 use Rattle.reaching.proofs.Spreading.{spreads-same, spreads-both, height-next, all-spread}
 use Rattle.reaching.proofs.spreads.spread_heights.Statement.{statement}
 use Rattle.reaching.proofs.spreads.spread_heights.Tie as tie
 
 abbrev Inv-loop : tie.InvT-loop
 Inv-loop t order keep₀ h₀ keep h =
-    (h ≤ longest) × (length keep ≡ length keep₀) × Spreads t (left longest mostRows) (left h mostRows) keep₀ keep
+    (h ≤ longest) × (length keep ≡ length keep₀) × Spreads t (turn longest mostRows) (turn h mostRows) keep₀ keep
 
 abbrev μ-loop : tie.MeasureT-loop
 μ-loop t order keep₀ h₀ keep h = h

@@ -19,11 +19,11 @@ use Rattle.letters.specs.Names.{longest}
 use Rattle.sets.specs.Below.{allBelow, total, greatest}
 use Rattle.sets.proofs.Below.{not-all-below}
 use Rattle.rows.specs.Table.{Table, rowCount, mostRows, mark, height, target, inUse}
-use Rattle.rows.specs.Rules.{above, lastOk, arcsOk}
-use Rattle.rules.specs.declared.arcs.Asked.the-variants.{Height, Broken}
-use Rattle.rules.specs.Asked.{asksIf, asks}
+use Rattle.rows.specs.Rules.{above, number39Ok, arcsOk}
+use Rattle.rules.specs.declared.arcs.Demand.the-variants.{Height, Broken}
+use Rattle.rules.specs.Demand.{demandIf, demands}
 use Rattle.rows.specs.Skips.{NextArc}
-use Rattle.index.specs.Buckets.{factor, mix, most, keyFrom, rowKey}
+use Rattle.index.specs.Buckets.{factor, mix, productBound, keyFrom, rowKey}
 use Rattle.index.proofs.Buckets.{mix-none, mix-more, mix-zero}
 use Rattle.index.proofs.Keeping.{keyed-more}
 use Rattle.index.specs.Arcs.{arcsFrom, Adds, Few}
@@ -35,24 +35,24 @@ use Rattle.rules.proofs.arcs.arcs_ok.Statement.{statement}
 use Rattle.rules.proofs.arcs.arcs_ok.Tie as tie
 
 -- a target that asks for a height is fine, and a broken one is not
-asks-height : (fine : Bool) (top h : ℕ) → asksIf fine top ≡ Height h → (fine ≡ true) × (h ≡ top)
-asks-height true top h e = (refl, cc)
-asks-height false top h e = (cc, cc)
+demand-height : (fine : Bool) (top h : ℕ) → demandIf fine top ≡ Height h → (fine ≡ true) × (h ≡ top)
+demand-height true top h e = (refl, cc)
+demand-height false top h e = (cc, cc)
 
-asks-broken : (fine : Bool) (top : ℕ) → asksIf fine top ≡ Broken → fine ≡ false
-asks-broken true top e = cc
-asks-broken false top e = refl
+demand-broken : (fine : Bool) (top : ℕ) → demandIf fine top ≡ Broken → fine ≡ false
+demand-broken true top e = cc
+demand-broken false top e = refl
 
 -- the letters below x are followed
 record Followed (t : Table) (r x top m : ℕ) (p q : List ℕ) : Type 0 where
   fine : allBelow x (λ y. eqb (target t r y) 0 || inUse t (target t r y)) ≡ true
   asked : top ≡ greatest x (λ y. above t (target t r y))
   mixes : m ≡ mix (mark t r) (λ y. target t r y) x
-  small : m < suc x * most
+  small : m < suc x * productBound
   counts : Adds (λ s. arcsFrom t r x s) p q
 
 module _ (t : Table) (r : ℕ) where
-  followed-none : (m : ℕ) (p : List ℕ) → m ≡ mix (mark t r) (λ x. 0) 0 → m < most → Followed t r 0 0 m p p
+  followed-none : (m : ℕ) (p : List ℕ) → m ≡ mix (mark t r) (λ x. 0) 0 → m < productBound → Followed t r 0 0 m p p
   unfolding allBelow total greatest
   followed-none m p e small = record { fine = refl; asked = refl; mixes = e ∙ mix-none _ _ _; small = omega arith; counts = adds-none (λ s h. refl) }
 
@@ -61,11 +61,11 @@ module _ (t : Table) (r : ℕ) where
   used-target n s fine h =
       elim (ℕ-discrete n 0) [ yes e ↦ rw (e, ne-eqb 0 s (λ d. omega arith)) | no e ↦ rw (rw (ne-eqb n 0 e) at fine) ]
 
-  followed-more : {x n top h m m′ : ℕ} {p q q′ : List ℕ} → Followed t r x top m p q → n ≡ target t r x → asks t n ≡ Height h
-      → Adds (λ s. flag (inUse t n && eqb n s)) q q′ → m′ ≡ m + n * factor x → m′ < suc (suc x) * most → Followed t r (x + 1) (max top h) m′ p q′
+  followed-more : {x n top h m m′ : ℕ} {p q q′ : List ℕ} → Followed t r x top m p q → n ≡ target t r x → demands t n ≡ Height h
+      → Adds (λ s. flag (inUse t n && eqb n s)) q q′ → m′ ≡ m + n * factor x → m′ < suc (suc x) * productBound → Followed t r (x + 1) (max top h) m′ p q′
   unfolding allBelow greatest
   followed-more {x} {n} {top} {h} before at e one given small =
-      let (fine, higher) = asks-height (eqb n 0 || inUse t n) (above t n) h e in
+      let (fine, higher) = demand-height (eqb n 0 || inUse t n) (above t n) h e in
       record {
         fine = all-more _ x (before .fine) (rw at at fine);
         asked = rw (add-one, before .asked, higher, at);
@@ -95,11 +95,11 @@ module _ (t : Table) (r : ℕ) where
       → (n : ℕ) → 0 < n → getD q n 0 < mostRows * letters
   place-for-one {x} before few row fits h n some = omega (arith, before .counts .adds n some, few n some, arcs-most t r x n)
 
-  arcs-broken : (x n : ℕ) → x < letters → n ≡ target t r x → asks t n ≡ Broken → arcsOk t r ≡ false
-  arcs-broken x n h at e = rw (not-all-below _ letters x h (rw at at (asks-broken (eqb n 0 || inUse t n) (above t n) e)))
+  arcs-broken : (x n : ℕ) → x < letters → n ≡ target t r x → demands t n ≡ Broken → arcsOk t r ≡ false
+  arcs-broken x n h at e = rw (not-all-below _ letters x h (rw at at (demand-broken (eqb n 0 || inUse t n) (above t n) e)))
 
   arcs-left : {top m : ℕ} {p q : List ℕ} → Followed t r letters top m p q
-      → arcsOk t r ≡ (eqb (height t r) top && leb (height t r) longest && lastOk t r)
+      → arcsOk t r ≡ (eqb (height t r) top && leb (height t r) longest && number39Ok t r)
   arcs-left all = rw (all .fine, ← all .asked)
 
 abbrev Inv-loop : tie.InvT-loop
@@ -199,7 +199,7 @@ all-followed c =
 left : (c : tie.After-height Inv-loop μ-loop) →
     let l = c .before .before .loop in
     let args = start (c .before .before) .args in
-    arcsOk (args .t .now) (args .r) ≡ (eqb (c .height .result) (l .top) && leb (c .height .result) longest && lastOk (args .t .now) (args .r))
+    arcsOk (args .t .now) (args .r) ≡ (eqb (c .height .result) (l .top) && leb (c .height .result) longest && number39Ok (args .t .now) (args .r))
 left c = arcs-left _ _ (all-followed (c .before)) ∙ rw (c .height .ensures)
 
 height-requires : tie.Need-height-requires Inv-loop μ-loop
@@ -234,8 +234,8 @@ keep-key-requires c κs =
     let begin = start (c .before .before .before .before .before .before) in
     (omega (arith, begin .pre .2), begin .pre .3 .keys .long)
 
-last-requires : tie.Need-last-requires Inv-loop μ-loop
-last-requires c κs = search needs
+number39-requires : tie.Need-number39-requires Inv-loop μ-loop
+number39-requires c κs = search needs
 
 same-length-4 : tie.Need-same-length-4 Inv-loop μ-loop
 same-length-4 c = search needs
@@ -254,7 +254,7 @@ returns-4 c =
     let same = eq-eqb (called .height .result) (called .before .before .loop .top) (omega arith) in
     let low = le-leb (called .height .result) longest (omega arith) in (
       record {
-        says = rw (left called, same, low, c .last .ensures);
+        says = rw (left called, same, low, c .number39 .ensures);
         long = omega arith;
         counts = λ _. all-followed (called .before) .counts;
       },
@@ -292,7 +292,7 @@ arcs-ok-spec =
     returns-3
     key-from-requires
     keep-key-requires
-    last-requires
+    number39-requires
     same-length-4
     same-length-5
     returns-4)
