@@ -1,6 +1,6 @@
 -- The calls with their arguments: mission, operation and n are numbers; names, prefixes and lists are bytes. Assumes nothing.
 use Prim.Native.Nat.{ℕ}
-use mathlib.Core.Bool.{Bool}
+use mathlib.Core.Bool.{Bool, true}
 use mathlib.Core.List.{List, _++_}
 use lib.ListN.{length, drop}
 use Rattle.sets.specs.Sets.{Words}
@@ -29,6 +29,10 @@ pub record Book : Type 0 where
   pub sound : Bool
   pub room : ℕ
   pub lists : List Words
+
+-- a sound book
+abbrev pub bookWith : ℕ → List Words → Book
+bookWith room ls = record { lengthOk = true; sound = true; room = room; lists = ls }
 
 -- "Each call answers a number and a value." next answers a second value, nth writes bytes to the front of its buffer, and some calls change
 -- the lists.

@@ -20,3 +20,19 @@ changes (count m) n = false
 changes (rank m name) n = false
 changes (nth m n size) k = false
 changes used n = false
+
+-- is the call a change: may it change a list, and does its value say whether it did?
+abbrev pub isChange : Call → Bool
+isChange (add m name) = true
+isChange (remove m name) = true
+isChange (clear m) = true
+isChange (load m bytes) = true
+isChange (combine op x y z) = true
+isChange empty = false
+isChange check = false
+isChange (ask m name) = false
+isChange (next m prefix) = false
+isChange (count m) = false
+isChange (rank m name) = false
+isChange (nth m n size) = false
+isChange used = false

@@ -1,4 +1,4 @@
--- On a sound book ask and next by the walk are the model's. The refusals are the same; where none applies, the mission is one of the sixteen
+-- On a sound book what a call comes to is the model's outcome: ask and next by the walk are the model's. The refusals are the same; where none applies, the mission is one of the sixteen
 -- and the bytes are a word of letters, and there the walk says what the plain set says. Assumes nothing.
 use Prim.Native.Nat.{ℕ, zero, suc, _<_}
 use native.Mathlib.Omega.{arith}
@@ -13,19 +13,16 @@ use Rattle.letters.proofs.LetterSet.{sum-agree, count-agree}
 use Rattle.sets.proofs.Membership.{In, here, there, fails}
 use Rattle.model.specs.Lists.{lastMission, missions}
 use Rattle.model.specs.Call.{Book, Call, Outcome}
-use Rattle.model.specs.Call.Call.{ask, next}
+use Rattle.model.specs.Call.Call.{empty, check, ask, next, add, remove, clear, load, combine, count, rank, nth, used}
 use Rattle.model.specs.Refusals.{Refusal, given, badMission, noName, noPrefix}
-use Rattle.model.specs.Run.{rule, outcome, run}
+use Rattle.model.specs.Run.{rule, outcome, ruled, run}
 use Rattle.model.proofs.Refusals.{lowest-given}
 use Rattle.rows.specs.Table.{Table}
 use Rattle.rows.specs.Rules.{sound}
 use Rattle.minimal.proofs.Theorems.{sound-ask, sound-next}
-use Rattle.answers.specs.declared.cases.Asked.{Asked}
-use Rattle.answers.specs.declared.cases.Following.{Following}
-use Rattle.answers.specs.Replies.{askReply, nextReply, replyOf}
-use Rattle.admitting.specs.Books.{bookOf}
-use Rattle.calls.specs.Walks.{askWalk, nextWalk}
-use Rattle.calls.specs.Promises.{Asks, Follows}
+use Rattle.promises.specs.Books.{bookOf}
+use Rattle.promises.specs.Walks.{askWalk, nextWalk}
+use Rattle.promises.specs.Promises.{outcomeOf}
 
 -- what a call comes to when done decides only where nothing refuses it
 same-outcome : (b : Book) (n : ℕ) (d e : Outcome) → (n ≡ 0 → d ≡ e) → outcome b n d ≡ outcome b n e
@@ -44,7 +41,7 @@ module _ (t : Table) (m : ℕ) (bytes : List ℕ) where
   b = bookOf t
 
   -- On a sound book ask by the walk is the model's ask, for every mission number and all bytes; and so is next.
-  pub ask-run : sound t ≡ true → askWalk t m bytes ≡ run (bookOf t) (ask m bytes)
+  pub ask-run : sound t ≡ true → ruled b (askWalk t m bytes) ≡ run (bookOf t) (ask m bytes)
   unfolding run
   ask-run e =
       let call = ask m bytes in
@@ -54,7 +51,7 @@ module _ (t : Table) (m : ℕ) (bytes : List ℕ) where
       let name = not-false (isName bytes) (none-applies b call (noName bytes) (there (there (here refl))) none) in
       rw (sound-ask t e m mission (wordOf bytes) (name-parts bytes name .2)))
 
-  pub next-run : sound t ≡ true → nextWalk t m bytes ≡ run (bookOf t) (next m bytes)
+  pub next-run : sound t ≡ true → ruled b (nextWalk t m bytes) ≡ run (bookOf t) (next m bytes)
   unfolding run
   next-run e =
       let call = next m bytes in
@@ -65,9 +62,18 @@ module _ (t : Table) (m : ℕ) (bytes : List ℕ) where
       let same = sound-next t e m mission (wordOf bytes) (prefix-parts bytes prefix .1) in
       rw (sum-agree _ _ _ same, count-agree _ _ _ same))
 
-  -- so what ask and next say on any numbers is all that they promise
-  pub walk-asks : (a : Asked) → askReply a ≡ replyOf (askWalk t m bytes) → Asks t m bytes a
-  walk-asks a walks = record { walks = walks; plain = λ e. walks ∙ rw (ask-run e) }
-
-  pub walk-follows : (a : Following) → nextReply a ≡ replyOf (nextWalk t m bytes) → Follows t m bytes a
-  walk-follows a walks = record { walks = walks; plain = λ e. walks ∙ rw (next-run e) }
+-- On a sound book every call comes to what the model says.
+pub sound-outcome : (t : Table) → sound t ≡ true → (call : Call) → outcomeOf t call ≡ run (bookOf t) call
+sound-outcome t s (ask m name) = ask-run t m name s
+sound-outcome t s (next m prefix) = next-run t m prefix s
+sound-outcome t s empty = refl
+sound-outcome t s check = refl
+sound-outcome t s (add m name) = refl
+sound-outcome t s (remove m name) = refl
+sound-outcome t s (clear m) = refl
+sound-outcome t s (load m list) = refl
+sound-outcome t s (combine op a b c) = refl
+sound-outcome t s (count m) = refl
+sound-outcome t s (rank m name) = refl
+sound-outcome t s (nth m n size) = refl
+sound-outcome t s used = refl

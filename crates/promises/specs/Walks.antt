@@ -4,31 +4,27 @@ use mathlib.Core.List.{List, []}
 use Rattle.letters.specs.Letters.{letters}
 use Rattle.letters.specs.Words.{wordOf}
 use Rattle.letters.specs.LetterSet.{flag, sumOf, countOf}
-use Rattle.model.specs.Call.{Outcome}
-use Rattle.model.specs.Rules.{answers, askRule, nextRule}
-use Rattle.model.specs.Run.{ruled}
+use Rattle.model.specs.Rules.{Rule, answers, askRule, nextRule}
 use Rattle.rows.specs.Table.{Table, start}
 use Rattle.rows.specs.Walk.{accepts, follows}
-use Rattle.admitting.specs.Books.{bookOf}
+use Rattle.promises.specs.Books.{bookOf}
 
 -- "ask and next work on any numbers": the refusals are the model's, and the walk answers.
 -- "ask says 1 exactly when the walk ends on a row with mark 2."
-abbrev pub askWalk : Table → ℕ → List ℕ → Outcome
+abbrev pub askWalk : Table → ℕ → List ℕ → Rule
 askWalk t m name =
     let b = bookOf t in
-    ruled b
-    (record {
+    record {
       refusals = askRule b m name .refusals;
       done = answers b (flag (accepts t (wordOf name) (start t m)));
-    })
+    }
 
 -- "next reports each letter whose target is a row." "The number of letters that may follow is also answered."
-abbrev pub nextWalk : Table → ℕ → List ℕ → Outcome
+abbrev pub nextWalk : Table → ℕ → List ℕ → Rule
 nextWalk t m prefix =
     let b = bookOf t in
     let test = follows t (wordOf prefix) (start t m) in
-    ruled b
-    (record {
+    record {
       refusals = nextRule b m prefix .refusals;
       done = record { number = 0; value = sumOf letters test; second = countOf letters test; written = []; lists = b .lists };
-    })
+    }
