@@ -3,64 +3,129 @@
 use Prim.Native.Nat.{ℕ, zero, suc, _<_}
 use native.Mathlib.Omega.{arith}
 use mathlib.Core.Path.{_≡_, refl, sym, _∙_}
-use mathlib.Core.Bool.{Bool, true}
-use mathlib.Core.List.{List, _++_}
+use mathlib.Core.Bool.{Bool, true, false, not, false≢true}
+use mathlib.Core.List.{List, [], _∷_, _++_}
 use lib.ListN.{drop}
 use borrow.Author.Tests.{not-false, ltb-false}
-use Rattle.letters.specs.Each.{Each}
 use Rattle.model.specs.Lists.{lastMission, missions}
-use Rattle.model.specs.Call.{Book, Call, Outcome}
-use Rattle.model.specs.Refusals.{Refusal as Test, given}
-use Rattle.model.specs.Run.{rule, refused, outcome, run}
+use Rattle.model.specs.Call.{Book, Outcome}
+use Rattle.model.specs.Refusals.{Refusal as Test, given, badLength, badMission, notSound}
+use Rattle.model.specs.Rules.{Rule}
+use Rattle.model.specs.Run.{refused, outcome, ruled}
 use Rattle.model.proofs.Refusals.{given-none, given-first}
 use Rattle.rows.specs.Table.{Table, lengthOk}
 use Rattle.rows.specs.Rules.{sound}
 use Rattle.answers.specs.declared.cases.Refusal.{Refusal}
+use Rattle.answers.specs.declared.cases.Refusal.the-variants.{NotSound}
 use Rattle.answers.specs.Replies.{refusalNumber}
 use Rattle.answers.proofs.Again.{refusal-positive}
-use Rattle.admitting.specs.Books.{bookOf}
+use Rattle.promises.specs.Books.{bookOf}
 use Rattle.admitting.specs.declared.admits.Admission.{Admission}
 use Rattle.admitting.specs.declared.admits.Admission.the-variants.{Admitted, Refused}
-use Rattle.admitting.specs.Admission.{firstTests, admissionNumber}
+use Rattle.admitting.specs.Admission.{admissionNumber, ifFine, verdict, bookTests, walkTests, firstTests}
 
--- none of the first tests applies
-pub record Admits (t : Table) (m : ℕ) (asked : Bool) : Type 0 where
+-- ---- arguments
+
+verdict-numbered : (a : Admission) → verdict a .applies ≡ true → 0 < verdict a .number
+verdict-numbered Admitted e = absurd (false≢true e)
+verdict-numbered (Refused r) e = refusal-positive r
+
+verdict-fine : (a : Admission) → verdict a .applies ≡ false → a ≡ Admitted
+verdict-fine Admitted e = refl
+verdict-fine (Refused r) e = absurd (false≢true (sym e))
+
+pub fine-true : (fine : Bool) (otherwise : Refusal) → ifFine fine otherwise ≡ Admitted → fine ≡ true
+fine-true true otherwise e = refl
+fine-true false otherwise e = cc
+
+pub not-admitted : {A : Type 0} {r : Refusal} → _≡_ {A = Admission} (Refused r) Admitted → A
+not-admitted e = let z : _≡_ {A = ℕ} 0 1 = cc in absurd (omega arith)
+
+pub verdict-given : (a : Admission) → admissionNumber a ≡ given (verdict a ∷ [])
+verdict-given Admitted = refl
+verdict-given (Refused r) = refl
+
+-- one test of the arguments, where a call's rule has it
+pub one-test : (fine : Bool) (otherwise : Refusal) (more : List Test)
+    → given (verdict (ifFine fine otherwise) ∷ more) ≡ given (record { number = refusalNumber otherwise; applies = not fine } ∷ more)
+one-test true otherwise more = refl
+one-test false otherwise more = refl
+
+-- ---- none of the tests applies
+
+pub record Admits (t : Table) (m : ℕ) (found : Admission) : Type 0 where
   pub length : lengthOk t ≡ true
   pub mission : m < missions
-  pub fine : asked ≡ true
+  pub arguments : found ≡ Admitted
   pub sound : sound t ≡ true
+
+-- of those before 7
+pub record Walks (m : ℕ) (found : Admission) : Type 0 where
+  pub mission : m < missions
+  pub arguments : found ≡ Admitted
+
+module _ (t : Table) {a : Admission} (told : a ≡ Admitted) where
+  abbrev b : Book
+  b = bookOf t
+
+  pub book-admitted : admissionNumber a ≡ given (bookTests b) → sound t ≡ true
+  book-admitted e =
+      let (_, (sound, _)) = given-none (bookTests b) ((λ _. omega arith), ((λ _. omega arith), tt)) (sym (rw told at e)) in
+      not-false _ sound
+
+  module _ (m : ℕ) (found : Admission) where
+    pub walk-admitted : admissionNumber a ≡ given (walkTests b m found) → Walks m found
+    walk-admitted e =
+        let (_, (mission, (fine, _))) =
+        given-none (walkTests b m found) ((λ _. omega arith), ((λ _. omega arith), (verdict-numbered found, tt))) (sym (rw told at e)) in
+        record { mission = omega (arith, ltb-false lastMission m mission); arguments = verdict-fine found fine }
+
+    pub admitted : admissionNumber a ≡ given (firstTests b m found) → Admits t m found
+    admitted e =
+        let (length, (mission, (fine, (sound, _)))) =
+        given-none (firstTests b m found) ((λ _. omega arith), ((λ _. omega arith), (verdict-numbered found, ((λ _. omega arith), tt))))
+        (sym (rw told at e))
+        in
+        record {
+          length = not-false _ length;
+          mission = omega (arith, ltb-false lastMission m mission);
+          arguments = verdict-fine found fine;
+          sound = not-false _ sound;
+        }
+
+-- ---- 7 behind the others
+
+-- the tests before 7 pass, and 7 decides
+pub sound-next : (b : Book) (m : ℕ) (found : Admission) {a : Admission} → a ≡ Admitted → admissionNumber a ≡ given (walkTests b m found)
+    → admissionNumber (ifFine (b .sound) NotSound) ≡ given (firstTests b m found)
+sound-next b m found told e =
+    let (length, (mission, (fine, _))) =
+    given-none (walkTests b m found) ((λ _. omega arith), ((λ _. omega arith), (verdict-numbered found, tt))) (sym (rw told at e)) in
+    rw (length, mission, fine) (go (b .sound))
+  where
+    go : (sound : Bool) → admissionNumber (ifFine sound NotSound) ≡ given (record { number = 7; applies = not sound } ∷ [])
+    go true = refl
+    go false = refl
+
+-- or they refuse
+pub refused-next : (b : Book) (m : ℕ) (found : Admission) {a : Admission} {why : Refusal} → a ≡ Refused why
+    → admissionNumber a ≡ given (walkTests b m found) → refusalNumber why ≡ given (firstTests b m found)
+refused-next b m found {a} {why} told e =
+    let number : refusalNumber why ≡ given (walkTests b m found) = rw told at e in
+    number ∙ sym (given-first (walkTests b m found) (notSound b ∷ []) (omega (arith, refusal-positive why)))
+
+-- ---- the tests refuse
 
 refused-outcome : (b : Book) (n : ℕ) (done : Outcome) → 0 < n → outcome b n done ≡ refused n b
 refused-outcome b zero done some = absurd (omega arith)
 refused-outcome b (suc n) done some = refl
 
-module _ (t : Table) (m : ℕ) (fine : Bool) (otherwise : Refusal) where
-  abbrev b : Book
-  b = bookOf t
-
-  abbrev tests : List Test
-  tests = firstTests b m fine (refusalNumber otherwise)
-
-  -- the call is admitted: every test is passed
-  pub admitted : {a : Admission} → a ≡ Admitted → admissionNumber a ≡ given tests → Admits t m fine
-  admitted told e =
-      let numbered : Each (λ r. 0 < r .number) tests = (omega arith, (omega arith, (refusal-positive otherwise, (omega arith, tt)))) in
-      let (length, (mission, (asked, (sound, _)))) = given-none tests numbered (sym (rw told at e)) in
-      record {
-        length = not-false _ length;
-        mission = omega (arith, ltb-false lastMission m mission);
-        fine = not-false fine asked;
-        sound = not-false _ sound;
-      }
-
-  -- Where a call's refusals begin with these tests, the call is refused as they say. That they begin so is asked of the number given: the
-  -- call's first k refusals give what the tests give, and so it may have fewer or more of them.
-  pub refused-first : (call : Call) (k : ℕ) → given (rule b call .refusals) ≡ given (tests ++ drop k (rule b call .refusals))
-      → {a : Admission} {r : Refusal} → a ≡ Refused r → admissionNumber a ≡ given tests
-      → run b call ≡ refused (refusalNumber r) b
-  unfolding run
-  refused-first call k begins {a} {r} told e =
-      let number : refusalNumber r ≡ given tests = rw told at e in
-      let same : given (rule b call .refusals) ≡ refusalNumber r =
-      begins ∙ given-first tests (drop k (rule b call .refusals)) (omega (arith, refusal-positive r)) ∙ sym number in
-      rw same (refused-outcome b (refusalNumber r) _ (refusal-positive r))
+-- Where a rule's refusals begin with these tests, it comes to what they say. That they begin so is asked of the number given: the rule's first k
+-- refusals give what the tests give, and so it may have fewer or more of them.
+pub refused-first : (b : Book) (r : Rule) (tests : List Test) (k : ℕ) → given (r .refusals) ≡ given (tests ++ drop k (r .refusals))
+    → {a : Admission} {why : Refusal} → a ≡ Refused why → admissionNumber a ≡ given tests → ruled b r ≡ refused (refusalNumber why) b
+refused-first b r tests k begins {a} {why} told e =
+    let number : refusalNumber why ≡ given tests = rw told at e in
+    let same : given (r .refusals) ≡ refusalNumber why =
+    begins ∙ given-first tests (drop k (r .refusals)) (omega (arith, refusal-positive why)) ∙ sym number in
+    rw same (refused-outcome b (refusalNumber why) _ (refusal-positive why))

@@ -1,3 +1,2 @@
--- What a call finds in a table, and the tests that most calls begin with. Assumes nothing.
-pub mod Books
+-- The tests that the calls begin with. Assumes nothing.
 pub mod Admission

@@ -73,13 +73,13 @@ lowest-given b c =
     }
 
 -- where none is given, none applies
-pub given-none : (rs : List Refusal) → Each (λ r. 0 < r .number) rs → given rs ≡ 0 → Each (λ r. r .applies ≡ false) rs
+pub given-none : (rs : List Refusal) → Each (λ r. r .applies ≡ true → 0 < r .number) rs → given rs ≡ 0 → Each (λ r. r .applies ≡ false) rs
 given-none [] numbered none = tt
 given-none (r ∷ rs) (some, numbered) none = go (given-none rs numbered) (r .applies) refl none
   where
     go : (given rs ≡ 0 → Each (λ r. r .applies ≡ false) rs) → (t : Bool) → r .applies ≡ t → cond t (r .number) (given rs) ≡ 0
         → Each (λ r. r .applies ≡ false) (r ∷ rs)
-    go rest true e d = absurd (omega arith)
+    go rest true e d = absurd (omega (arith, some e))
     go rest false e d = (e, rest d)
 
 -- what the first ones give is given, whatever stands behind them

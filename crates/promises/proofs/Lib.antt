@@ -1,6 +1,7 @@
 -- What the promises are worth, over all calls. Assumes nothing.
 pub mod Walks
 pub mod Outcomes
+pub mod Meeting
 pub mod Nothing
 pub mod Tight
 pub mod AnyCalls

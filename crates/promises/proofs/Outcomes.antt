@@ -19,7 +19,7 @@ use Rattle.promises.specs.Walks.{askWalk, nextWalk}
 use Rattle.promises.specs.Promises.{outcomeOf, Becomes, Leaves}
 
 -- what holds of a refusal, and of what is done, holds of what a rule comes to
-ruled-either : (P : Outcome → Type 0) (b : Book) (r : Rule) → ((n : ℕ) → P (refused (suc n) b)) → P (r .done) → P (ruled b r)
+pub ruled-either : (P : Outcome → Type 0) (b : Book) (r : Rule) → ((n : ℕ) → P (refused (suc n) b)) → P (r .done) → P (ruled b r)
 ruled-either P b r stops goes = elim (given (r .refusals)) as (λ n. P (outcome b n (r .done))) [ zero ↦ goes | suc n ↦ stops n ]
 
 -- a number that is not 0 is that of a refusal

@@ -45,6 +45,11 @@ pub record Becomes (t after : Table) (o : Outcome) : Type 0 where
   pub sound : sound t ≡ true → sound after ≡ true
   pub lists : lists after ≡ o .lists
 
+-- What a change replies, and the table after it: the promise of the functions that do a part of one.
+pub record Changes (t after : Table) (call : Call) (reply : Reply) : Type 0 where
+  pub answers : reply ≡ replyOf (run (bookOf t) call)
+  pub becomes : Becomes t after (run (bookOf t) call)
+
 -- The table after a call. "empty sets every number to 0", and a refusal "changes no number of the table". A table that is lent to read stays
 -- as it is.
 abbrev pub Leaves : Table → Table → Call → Type 0
