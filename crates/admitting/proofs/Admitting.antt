@@ -45,11 +45,18 @@ pub verdict-given : (a : Admission) → admissionNumber a ≡ given (verdict a �
 verdict-given Admitted = refl
 verdict-given (Refused r) = refl
 
--- one test of the arguments, where a call's rule has it
-pub one-test : (fine : Bool) (otherwise : Refusal) (more : List Test)
-    → given (verdict (ifFine fine otherwise) ∷ more) ≡ given (record { number = refusalNumber otherwise; applies = not fine } ∷ more)
-one-test true otherwise more = refl
-one-test false otherwise more = refl
+-- a call's rule that has one test of the arguments begins with these tests
+pub walk-begins : (b : Book) (m : ℕ) (fine : Bool) (otherwise : Refusal)
+    → given (badLength b ∷ badMission m ∷ record { number = refusalNumber otherwise; applies = not fine } ∷ [])
+    ≡ given (walkTests b m (ifFine fine otherwise))
+walk-begins b m true otherwise = refl
+walk-begins b m false otherwise = refl
+
+pub first-begins : (b : Book) (m : ℕ) (fine : Bool) (otherwise : Refusal) (more : List Test)
+    → given (badLength b ∷ badMission m ∷ record { number = refusalNumber otherwise; applies = not fine } ∷ notSound b ∷ more)
+    ≡ given (firstTests b m (ifFine fine otherwise) ++ more)
+first-begins b m true otherwise more = refl
+first-begins b m false otherwise more = refl
 
 -- ---- none of the tests applies
 
@@ -60,7 +67,8 @@ pub record Admits (t : Table) (m : ℕ) (found : Admission) : Type 0 where
   pub sound : sound t ≡ true
 
 -- of those before 7
-pub record Walks (m : ℕ) (found : Admission) : Type 0 where
+pub record Walks (t : Table) (m : ℕ) (found : Admission) : Type 0 where
+  pub length : lengthOk t ≡ true
   pub mission : m < missions
   pub arguments : found ≡ Admitted
 
@@ -74,11 +82,15 @@ module _ (t : Table) {a : Admission} (told : a ≡ Admitted) where
       not-false _ sound
 
   module _ (m : ℕ) (found : Admission) where
-    pub walk-admitted : admissionNumber a ≡ given (walkTests b m found) → Walks m found
+    pub walk-admitted : admissionNumber a ≡ given (walkTests b m found) → Walks t m found
     walk-admitted e =
-        let (_, (mission, (fine, _))) =
+        let (length, (mission, (fine, _))) =
         given-none (walkTests b m found) ((λ _. omega arith), ((λ _. omega arith), (verdict-numbered found, tt))) (sym (rw told at e)) in
-        record { mission = omega (arith, ltb-false lastMission m mission); arguments = verdict-fine found fine }
+        record {
+          length = not-false _ length;
+          mission = omega (arith, ltb-false lastMission m mission);
+          arguments = verdict-fine found fine;
+        }
 
     pub admitted : admissionNumber a ≡ given (firstTests b m found) → Admits t m found
     admitted e =
@@ -129,3 +141,8 @@ refused-first b r tests k begins {a} {why} told e =
     let same : given (r .refusals) ≡ refusalNumber why =
     begins ∙ given-first tests (drop k (r .refusals)) (omega (arith, refusal-positive why)) ∙ sym number in
     rw same (refused-outcome b (refusalNumber why) _ (refusal-positive why))
+
+-- Where the tests are all that the rule has, and pass, the call is done.
+pub done-first : (b : Book) (r : Rule) (tests : List Test) → given (r .refusals) ≡ given tests → {a : Admission} → a ≡ Admitted
+    → admissionNumber a ≡ given tests → ruled b r ≡ r .done
+done-first b r tests all told e = rw (all ∙ sym (rw told at e))

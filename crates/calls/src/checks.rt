@@ -1,19 +1,17 @@
 // "check: is it sound?"
+use admitting::Admission;
+use admitting::admit_book;
 use answers::Answer;
-use answers::Refusal;
-use rows::length_ok;
-use rules::sound;
+ghost use mathlib.Core.List.{[]};
 ghost use Rattle.model.specs.Call.Call.{check};
-ghost use Rattle.calls.specs.Promises.{Answers};
+ghost use Rattle.answers.specs.Replies.{answerReply};
+ghost use Rattle.promises.specs.Promises.{Promised};
 
 pub fn check(t: &[u16]) -> Answer
-    ensures { λ a. ⌜ Answers (now (t .entry)) check a ⌝ }
+    ensures { λ a. ⌜ Promised (now (t .entry)) (now (t .entry)) [] [] check (answerReply a) ⌝ }
 {
-    if !length_ok(t) {
-        return Answer::Refused(Refusal::Length);
+    match admit_book(t) {
+        Admission::Admitted => Answer::Done(0),
+        Admission::Refused(r) => Answer::Refused(r),
     }
-    if !sound(t) {
-        return Answer::Refused(Refusal::NotSound);
-    }
-    Answer::Done(0)
 }

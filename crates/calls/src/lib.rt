@@ -1,5 +1,5 @@
-// The calls that read a table, and empty: refusals in 01's order, then the layers below. What they and those that
-// count names promise stands in specs/. No call asks anything of its arguments.
+// The calls that read a table, and empty: the first tests, then the layers below. No call asks anything of its
+// arguments.
 mod asks;
 mod checks;
 mod empties;

@@ -1,20 +1,18 @@
 // "used: rows in use."
+use admitting::Admission;
+use admitting::admit_book;
 use answers::Answer;
-use answers::Refusal;
-use rows::length_ok;
 use rows::used_rows;
-use rules::sound;
+ghost use mathlib.Core.List.{[]};
 ghost use Rattle.model.specs.Call.Call.{used};
-ghost use Rattle.calls.specs.Promises.{Answers};
+ghost use Rattle.answers.specs.Replies.{answerReply};
+ghost use Rattle.promises.specs.Promises.{Promised};
 
 pub fn used(t: &[u16]) -> Answer
-    ensures { λ a. ⌜ Answers (now (t .entry)) used a ⌝ }
+    ensures { λ a. ⌜ Promised (now (t .entry)) (now (t .entry)) [] [] used (answerReply a) ⌝ }
 {
-    if !length_ok(t) {
-        return Answer::Refused(Refusal::Length);
+    match admit_book(t) {
+        Admission::Admitted => Answer::Done(used_rows(t) as u32),
+        Admission::Refused(r) => Answer::Refused(r),
     }
-    if !sound(t) {
-        return Answer::Refused(Refusal::NotSound);
-    }
-    Answer::Done(used_rows(t) as u32)
 }

@@ -1,13 +1,15 @@
 -- How a function meets the promise of its call: a call that is lent no answer buffer writes nothing, so its reply and its table are all there is
 -- to say. Assumes nothing.
-use mathlib.Core.Path.{_≡_, refl, sym}
+use mathlib.Core.Path.{_≡_, refl, sym, ap}
 use mathlib.Core.Bool.{Bool, true, false, false≢true}
 use mathlib.Core.List.{[]}
 use Rattle.model.specs.Call.{Call, Outcome}
 use Rattle.model.specs.Call.Call.{empty, check, ask, next, add, remove, clear, load, combine, count, rank, nth, used}
-use Rattle.model.specs.Run.{rule, run}
+use Rattle.model.specs.Run.{rule, refused, run}
 use Rattle.rows.specs.Table.{Table}
+use Rattle.answers.specs.declared.cases.Refusal.{Refusal}
 use Rattle.answers.specs.declared.replies.Reply.{Reply}
+use Rattle.answers.specs.Replies.{refusalNumber, replyOf, refused as refusedReply}
 use Rattle.promises.specs.Books.{bookOf}
 use Rattle.promises.specs.Walks.{askWalk, nextWalk}
 use Rattle.promises.specs.Promises.{outcomeOf, replyTo, Leaves, Promised}
@@ -50,3 +52,8 @@ unwritten t used none = ruled-either Unwritten (bookOf t) (rule (bookOf t) used)
 pub promises : (t after : Table) (call : Call) (reply : Reply) → hasBuffer call ≡ false → Leaves t after call → reply ≡ replyTo t call
     → Promised t after [] [] call reply
 promises t after call reply none leaves answers = record { answers = answers; buffer = rw (unwritten t call none); table = leaves }
+
+-- it is refused
+pub promises-refused : (t : Table) (call : Call) (why : Refusal) → hasBuffer call ≡ false → Leaves t t call
+    → outcomeOf t call ≡ refused (refusalNumber why) (bookOf t) → Promised t t [] [] call (refusedReply why)
+promises-refused t call why none leaves e = promises t t call (refusedReply why) none leaves (sym (ap replyOf e))

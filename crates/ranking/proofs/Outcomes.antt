@@ -1,7 +1,7 @@
 -- What the calls share on their way to an outcome: the mission's list, the test of the number of its names, and what nth leaves in the buffer. Assumes nothing.
 use Prim.Native.Nat.{ℕ, _≤_, _<_}
 use native.Mathlib.Omega.{arith}
-use mathlib.Core.Path.{_≡_}
+use mathlib.Core.Path.{_≡_, refl}
 use mathlib.Core.Bool.{true, false}
 use mathlib.Core.List.{List, []}
 use lib.Dec.{ltb}
@@ -12,7 +12,7 @@ use Rattle.letters.specs.Names.{longest}
 use Rattle.sets.specs.Cut.{mostNames, cut}
 use Rattle.sets.proofs.Membership.{getD-in, each-in}
 use Rattle.model.specs.Lists.{missions, listOf, nthOf}
-use Rattle.model.specs.Call.{Outcome, overlaid}
+use Rattle.model.specs.Call.{Call, overlaid}
 use Rattle.model.specs.Call.Call.{nth}
 use Rattle.model.specs.Run.{refused, run}
 use Rattle.rows.specs.Table.{Table, start}
@@ -21,9 +21,9 @@ use Rattle.rows.proofs.Words.{words-short}
 use Rattle.rows.proofs.Books.{list-names}
 use Rattle.answers.specs.declared.cases.Refusal.{Refusal}
 use Rattle.answers.specs.declared.cases.Answer.the-variants as answer
-use Rattle.answers.specs.Replies.{refusalNumber}
-use Rattle.admitting.specs.Books.{bookOf}
-use Rattle.calls.specs.Promises.{Writes}
+use Rattle.answers.specs.Replies.{refusalNumber, answerReply}
+use Rattle.promises.specs.Books.{bookOf}
+use Rattle.promises.specs.Promises.{Promised}
 
 -- the mission's list is the words of its start
 pub list-words : (t : Table) (m r : ℕ) → m < missions → r ≡ start t m → listOf (lists t) m ≡ words t r
@@ -45,13 +45,14 @@ name-short t r n h = each-in _ (words-short t r) (getD-in [] (words t r) n h)
 
 -- nth refused leaves the buffer, and nth done writes the name
 module _ (t : Table) (m n : ℕ) (before : List ℕ) where
-  abbrev nth-run : Outcome
-  nth-run = run (bookOf t) (nth m n (length before))
+  abbrev nth-call : Call
+  nth-call = nth m n (length before)
 
-  pub refused-writes : (r : Refusal) → nth-run ≡ refused (refusalNumber r) (bookOf t) → Writes t m n before before (answer.Refused r)
-  refused-writes r e = record { answers = rw e; buffer = rw e }
+  pub nth-refused : (r : Refusal) → run (bookOf t) nth-call ≡ refused (refusalNumber r) (bookOf t)
+      → Promised t t before before nth-call (answerReply (answer.Refused r))
+  nth-refused r e = record { answers = rw e; buffer = rw e; table = refl }
 
-  pub done-writes : (after : List ℕ) (k : ℕ) (w : Word)
-      → nth-run ≡ record { number = 0; value = length w; second = 0; written = bytesOf w; lists = lists t }
-      → k ≡ length w → after ≡ overlaid (bytesOf w) before → Writes t m n before after (answer.Done k)
-  done-writes after k w e long written = record { answers = rw (e, long); buffer = rw e written }
+  pub nth-done : (after : List ℕ) (k : ℕ) (w : Word)
+      → run (bookOf t) nth-call ≡ record { number = 0; value = length w; second = 0; written = bytesOf w; lists = lists t }
+      → k ≡ length w → after ≡ overlaid (bytesOf w) before → Promised t t before after nth-call (answerReply (answer.Done k))
+  nth-done after k w e long written = record { answers = rw (e, long); buffer = rw e written; table = refl }

@@ -1,6 +1,7 @@
 // "rank: how many names of the list stand before a given name, which need not be on it".
 use admitting::Admission;
 use admitting::admit;
+use admitting::if_fine;
 use answers::Answer;
 use answers::Refusal;
 use counting::MOST_NAMES;
@@ -12,16 +13,18 @@ use rows::start;
 ghost use Prim.Native.Nat.{_<_};
 ghost use mathlib.Core.Path.{_≡_};
 ghost use mathlib.Core.Bool.{true};
+ghost use mathlib.Core.List.{[]};
 ghost use Rattle.letters.specs.Names.{isName};
 ghost use Rattle.model.specs.Lists.{missions};
 ghost use Rattle.model.specs.Call.Call.{rank};
 ghost use Rattle.rows.specs.Rules.{sound};
-ghost use Rattle.calls.specs.Promises.{Answers};
+ghost use Rattle.answers.specs.Replies.{answerReply};
+ghost use Rattle.promises.specs.Promises.{replyTo, Promised};
 
 // On a sound book and for a name: refusal 9, and the answer.
 fn rank_in_list(t: &[u16], m: usize, name: &[u8]) -> Answer
     requires { ⌜ (sound (now t) ≡ true) × (m < missions) × (isName (now name) ≡ true) ⌝ }
-    ensures { λ a. ⌜ Answers (now (t .entry)) (rank m (now (name .entry))) a ⌝ }
+    ensures { λ a. ⌜ answerReply a ≡ replyTo (now (t .entry)) (rank m (now (name .entry))) ⌝ }
 {
     let mut counts = [0u16; MOST_ROWS];
     if MOST_NAMES < count_names(t, m, &mut counts) {
@@ -32,9 +35,9 @@ fn rank_in_list(t: &[u16], m: usize, name: &[u8]) -> Answer
 }
 
 pub fn rank(t: &[u16], m: u32, name: &[u8]) -> Answer
-    ensures { λ a. ⌜ Answers (now (t .entry)) (rank m (now (name .entry))) a ⌝ }
+    ensures { λ a. ⌜ Promised (now (t .entry)) (now (t .entry)) [] [] (rank m (now (name .entry))) (answerReply a) ⌝ }
 {
-    match admit(t, m, is_name(name), Refusal::Name) {
+    match admit(t, m, if_fine(is_name(name), Refusal::Name)) {
         Admission::Admitted => rank_in_list(t, m as usize, name),
         Admission::Refused(r) => Answer::Refused(r),
     }

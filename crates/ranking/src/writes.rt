@@ -1,6 +1,7 @@
 // "nth: the name with n names before it".
 use admitting::Admission;
 use admitting::admit;
+use admitting::if_fine;
 use answers::Answer;
 use answers::Refusal;
 use counting::MOST_NAMES;
@@ -16,12 +17,14 @@ ghost use lib.ListN.{length};
 ghost use Rattle.letters.specs.Names.{longest};
 ghost use Rattle.model.specs.Lists.{missions};
 ghost use Rattle.rows.specs.Rules.{sound};
-ghost use Rattle.calls.specs.Promises.{Writes};
+ghost use Rattle.model.specs.Call.Call.{nth};
+ghost use Rattle.answers.specs.Replies.{answerReply};
+ghost use Rattle.promises.specs.Promises.{Promised};
 
 // On a sound book and for a buffer that is long enough: refusals 9 and 10, and the answer.
 fn nth_in_list(t: &[u16], m: usize, n: u32, out: &mut [u8]) -> Answer
     requires { ⌜ (sound (now t) ≡ true) × (m < missions) × (longest ≤ length (now out)) ⌝ }
-    ensures { λ a. ⌜ Writes (now (t .entry)) m n (now (out .entry)) (now (out .exit)) a ⌝ }
+    ensures { λ a. ⌜ Promised (now (t .entry)) (now (t .entry)) (now (out .entry)) (now (out .exit)) (nth m n (length (now (out .entry)))) (answerReply a) ⌝ }
 {
     let mut counts = [0u16; MOST_ROWS];
     let names = count_names(t, m, &mut counts);
@@ -36,9 +39,9 @@ fn nth_in_list(t: &[u16], m: usize, n: u32, out: &mut [u8]) -> Answer
 }
 
 pub fn nth(t: &[u16], m: u32, n: u32, out: &mut [u8]) -> Answer
-    ensures { λ a. ⌜ Writes (now (t .entry)) m n (now (out .entry)) (now (out .exit)) a ⌝ }
+    ensures { λ a. ⌜ Promised (now (t .entry)) (now (t .entry)) (now (out .entry)) (now (out .exit)) (nth m n (length (now (out .entry)))) (answerReply a) ⌝ }
 {
-    match admit(t, m, LONGEST <= out.len(), Refusal::Buffer) {
+    match admit(t, m, if_fine(LONGEST <= out.len(), Refusal::Buffer)) {
         Admission::Admitted => nth_in_list(t, m as usize, n, out),
         Admission::Refused(r) => Answer::Refused(r),
     }

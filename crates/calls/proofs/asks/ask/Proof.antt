@@ -1,81 +1,76 @@
--- `ask` meets its promise: the branches settle the three refusals one after the other, and then the walk answers. Assumes nothing.
-use mathlib.Core.Path.{_≡_, sym, _∙_}
-use mathlib.Core.Bool.{true, false}
+-- `ask` meets its promise: its first tests are all that can refuse it, and then the walk answers. Assumes nothing.
+use mathlib.Core.Path.{_≡_, refl, sym, _∙_, ap}
 use borrow.Author.Needs.{needs}
-use borrow.Author.Tests.{not-true, not-false}
-use lib.Dec.{ltb}
 use Rattle.letters.specs.Names.{isName}
-use Rattle.letters.specs.LetterSet.{flag}
-use Rattle.letters.proofs.Words.{name-parts}
-use Rattle.model.specs.Lists.{lastMission}
-use Rattle.model.proofs.Refusals.{mission-over, mission-under}
-use Rattle.rows.specs.Table.{lengthOk}
-use Rattle.rows.proofs.Rules.{start-inside}
-use Rattle.answers.specs.Replies.{done, replyOf}
-use Rattle.calls.specs.Walks.{askWalk}
-use Rattle.calls.proofs.Walks.{walk-asks}
+use Rattle.model.specs.Call.Call.{ask}
+use Rattle.answers.specs.declared.cases.Refusal.the-variants.{Name}
+use Rattle.answers.specs.Replies.{replyOf}
+use Rattle.promises.specs.Books.{bookOf}
+use Rattle.promises.specs.Walks.{askWalk}
+use Rattle.promises.proofs.Meeting.{promises, promises-refused}
+use Rattle.admitting.specs.Admission.{ifFine, walkTests}
+use Rattle.admitting.proofs.Admitting.{fine-true, walk-begins, walk-admitted, done-first, refused-first}
 use Rattle.calls.proofs.asks.ask.Statement.{statement}
 use Rattle.calls.proofs.asks.ask.Tie as tie
-
-length-fine : (c : tie.Else1) → lengthOk (c .before .before .before .before .args .t .now) ≡ true
-length-fine c = sym (c .before .length-ok .ensures) ∙ not-false _ (c .if1 .left)
-
-mission-fine : (c : tie.Else2) → ltb lastMission (c .before .before .before .before .before .args .m) ≡ false
-mission-fine c = mission-under _ (c .if2 .left)
-
-name-fine : (c : tie.Else3) → isName (c .before .before .before .before .before .before .before .args .name .now) ≡ true
-name-fine c = sym (c .before .is-name .ensures) ∙ not-false _ (c .if3 .left)
-
--- where nothing refuses, the last test answers
-answered : (c : tie.After-ends) →
-    let args = c .before .before .before .before .before .before .before .before .before .args in
-    replyOf (askWalk (args .t .now) (args .m) (args .name .now)) ≡ done (flag (c .ends .result))
-answered c =
-    let named = c .before .before in
-    let m = named .before .before in
-    rw (length-fine (m .before), mission-fine m, name-fine named, c .ends .ensures, c .before .walk-list .ensures)
-
-length-ok-requires : tie.Need-length-ok-requires
-length-ok-requires c κs = search needs
-
-returns : tie.Need-returns
-returns c = walk-asks _ _ _ _ (rw (sym (c .before .length-ok .ensures) ∙ not-true _ (c .if1 .taken)))
-
-returns-2 : tie.Need-returns-2
-returns-2 c = walk-asks _ _ _ _ (rw (length-fine (c .before), mission-over _ (c .if2 .taken)))
 
 is-name-requires : tie.Need-is-name-requires
 is-name-requires c κs = search needs
 
-returns-3 : tie.Need-returns-3
-returns-3 c =
-    let m = c .before .before in
-    walk-asks _ _ _ _ (rw (length-fine (m .before), mission-fine m, sym (c .before .is-name .ensures) ∙ not-true _ (c .if3 .taken)))
+if-fine-requires : tie.Need-if-fine-requires
+if-fine-requires c κs = search needs
 
-walk-list-requires : tie.Need-walk-list-requires
-walk-list-requires c κs =
-    let m = c .before .before in
-    (start-inside _ (length-fine (m .before)) _ (m .if2 .left), name-parts _ (name-fine c) .2)
+admit-walk-requires : tie.Need-admit-walk-requires
+admit-walk-requires c κs = search needs
 
-ends-requires : tie.Need-ends-requires
-ends-requires c κs = search needs
+enum-told : tie.Need-enum-told
+enum-told c = search needs
 
-returns-4 : tie.Need-returns-4
-returns-4 c = walk-asks _ _ _ _ (sym (answered (c .before) ∙ rw (c .if4 .taken)))
+-- what was found of the name
+found : (c : tie.After-if-fine) → c .if-fine .result ≡ ifFine (isName (c .before .before .before .before .args .name .now)) Name
+found c = c .if-fine .ensures ∙ rw (c .before .is-name .ensures)
 
-returns-5 : tie.Need-returns-5
-returns-5 c = walk-asks _ _ _ _ (sym (answered (c .before) ∙ rw (c .if4 .left)))
+ask-walk-requires : tie.Need-ask-walk-requires
+ask-walk-requires c κs =
+    let tested = c .before .before in
+    let fine = walk-admitted _ (c .enum-told .given .1) _ _ (tested .admit-walk .ensures) in
+    (fine .length, fine .mission, fine-true _ Name (sym (found (tested .before)) ∙ fine .arguments))
+
+enum-known-r : tie.Need-enum-known-r
+enum-known-r c = search needs
+
+returns : tie.Need-returns
+returns c =
+    let told = c .before in
+    let tested = told .before .before in
+    let args = tested .before .before .before .before .before .args in
+    let t = args .t .now in
+    let name = args .name .now in
+    let number = rw (found (tested .before)) at (tested .admit-walk .ensures) in
+    let done = done-first (bookOf t) (askWalk t (args .m) name) (walkTests (bookOf t) (args .m) (ifFine (isName name) Name))
+    (walk-begins (bookOf t) (args .m) (isName name) Name) (told .enum-told .given .1) number
+    in
+    promises t t (ask (args .m) name) _ refl refl (c .ask-walk .ensures ∙ sym (ap replyOf done))
+
+returns-2 : tie.Need-returns-2
+returns-2 c =
+    let tested = c .before .before .before in
+    let args = tested .before .before .before .before .before .args in
+    let t = args .t .now in
+    let name = args .name .now in
+    let number = rw (found (tested .before)) at (tested .admit-walk .ensures) in
+    promises-refused t (ask (args .m) name) (c .before .r .given .0 .0) refl refl
+    (refused-first (bookOf t) (askWalk t (args .m) name) (walkTests (bookOf t) (args .m) (ifFine (isName name) Name)) 3
+    (walk-begins (bookOf t) (args .m) (isName name) Name) (c .before .r .given .1) number)
 
 pub ask-spec : {M : Type 1} → statement M
 ask-spec =
     tie.close
     (tie.spec
-    length-ok-requires
-    returns
-    returns-2
     is-name-requires
-    returns-3
-    walk-list-requires
-    ends-requires
-    returns-4
-    returns-5)
+    if-fine-requires
+    admit-walk-requires
+    enum-told
+    ask-walk-requires
+    enum-known-r
+    returns
+    returns-2)

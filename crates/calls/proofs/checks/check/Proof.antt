@@ -1,33 +1,40 @@
--- `check` meets its promise: the branches settle the two refusals one after the other. Assumes nothing.
-use mathlib.Core.Path.{_≡_, sym, _∙_}
-use mathlib.Core.Bool.{true}
+-- `check` meets its promise: its two tests are all there is. Assumes nothing.
+use mathlib.Core.Path.{refl, sym, ap}
 use borrow.Author.Needs.{needs}
-use borrow.Author.Tests.{not-true, not-false}
-use Rattle.model.specs.Run.{run}
-use Rattle.rows.specs.Table.{lengthOk}
+use Rattle.model.specs.Call.Call.{check}
+use Rattle.model.specs.Run.{rule, run}
+use Rattle.answers.specs.Replies.{replyOf}
+use Rattle.promises.specs.Books.{bookOf}
+use Rattle.promises.proofs.Meeting.{promises, promises-refused}
+use Rattle.admitting.specs.Admission.{bookTests}
+use Rattle.admitting.proofs.Admitting.{done-first, refused-first}
 use Rattle.calls.proofs.checks.check.Statement.{statement}
 use Rattle.calls.proofs.checks.check.Tie as tie
 
-length-fine : (c : tie.Else1) → lengthOk (c .before .before .before .args .t .now) ≡ true
-length-fine c = sym (c .before .length-ok .ensures) ∙ not-false _ (c .if1 .left)
+admit-book-requires : tie.Need-admit-book-requires
+admit-book-requires c κs = search needs
 
-length-ok-requires : tie.Need-length-ok-requires
-length-ok-requires c κs = search needs
+enum-told : tie.Need-enum-told
+enum-told c = search needs
+
+enum-known-r : tie.Need-enum-known-r
+enum-known-r c = search needs
 
 returns : tie.Need-returns
 unfolding run
-returns c = rw (sym (c .before .length-ok .ensures) ∙ not-true _ (c .if1 .taken))
-
-sound-requires : tie.Need-sound-requires
-sound-requires c κs = search needs
+returns c =
+    let tested = c .before .before in
+    let t = tested .before .before .args .t .now in
+    let done = done-first (bookOf t) (rule (bookOf t) check) (bookTests (bookOf t)) refl (c .enum-told .given .1) (tested .admit-book .ensures) in
+    promises t t check _ refl refl (sym (ap replyOf done))
 
 returns-2 : tie.Need-returns-2
 unfolding run
-returns-2 c = rw (length-fine (c .before .before), sym (c .before .sound .ensures) ∙ not-true _ (c .if2 .taken))
-
-returns-3 : tie.Need-returns-3
-unfolding run
-returns-3 c = rw (length-fine (c .before .before), sym (c .before .sound .ensures) ∙ not-false _ (c .if2 .left))
+returns-2 c =
+    let tested = c .before .before .before in
+    let t = tested .before .before .args .t .now in
+    promises-refused t check (c .before .r .given .0 .0) refl refl
+    (refused-first (bookOf t) (rule (bookOf t) check) (bookTests (bookOf t)) 2 refl (c .before .r .given .1) (tested .admit-book .ensures))
 
 pub check-spec : {M : Type 1} → statement M
-check-spec = tie.close (tie.spec length-ok-requires returns sound-requires returns-2 returns-3)
+check-spec = tie.close (tie.spec admit-book-requires enum-told enum-known-r returns returns-2)

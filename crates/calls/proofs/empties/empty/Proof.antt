@@ -1,12 +1,12 @@
--- `empty` meets its promise: the branch settles its one refusal, and a table of zeros is a sound book with sixteen empty lists. Assumes nothing.
-use mathlib.Core.Path.{_≡_, sym, _∙_}
-use mathlib.Core.Bool.{true, false≢true}
+-- `empty` meets its promise: the branch settles its one refusal. Assumes nothing.
+use mathlib.Core.Path.{_≡_, refl, sym, _∙_}
+use mathlib.Core.Bool.{true}
 use borrow.Author.Needs.{needs}
 use borrow.Author.Tests.{not-true, not-false}
-use lib.ListN.{length}
+use Rattle.model.specs.Call.Call.{empty}
 use Rattle.model.specs.Run.{run}
 use Rattle.rows.specs.Table.{lengthOk}
-use Rattle.rows.proofs.Zeros.{zeros-sound, zeros-lists}
+use Rattle.promises.proofs.Meeting.{promises}
 use Rattle.calls.proofs.empties.empty.Statement.{statement}
 use Rattle.calls.proofs.empties.empty.Tie as tie
 
@@ -23,12 +23,7 @@ returns : tie.Need-returns
 unfolding run
 returns c =
     let e = sym (c .before .length-ok .ensures) ∙ not-true _ (c .if1 .taken) in
-    record {
-      answers = rw e;
-      table = rw e;
-      sound = λ ok. absurd (false≢true (sym e ∙ ok));
-      lists = rw e;
-    }
+    promises _ _ empty _ refl (rw e) (rw e)
 
 fill-with-zeros-requires : tie.Need-fill-with-zeros-requires
 fill-with-zeros-requires c κs = search needs
@@ -41,13 +36,7 @@ unfolding run
 returns-2 c =
     let filled = c .before .before in
     let e = length-fine (filled .before .before) in
-    let zeros = filled .fill-with-zeros .ensures in
-    record {
-      answers = rw e;
-      table = rw e zeros;
-      sound = λ ok. rw zeros (zeros-sound _ e);
-      lists = rw (zeros, e) (zeros-lists (length (filled .before .before .before .before .before .before .args .t .now)));
-    }
+    promises _ _ empty _ refl (rw e (filled .fill-with-zeros .ensures)) (rw e)
 
 pub empty-spec : {M : Type 1} → statement M
 empty-spec = tie.close (tie.spec length-ok-requires same-length returns fill-with-zeros-requires same-length-2 returns-2)

@@ -1,84 +1,76 @@
--- `next` meets its promise: the branches settle the three refusals one after the other, and then the arcs at the end of the walk answer: the set
--- of their letters, and as many as it has ones. Assumes nothing.
-use mathlib.Core.Path.{_≡_, sym, _∙_}
-use mathlib.Core.Bool.{true, false}
+-- `next` meets its promise: its first tests are all that can refuse it, and then the arcs at the end of the walk answer. Assumes nothing.
+use mathlib.Core.Path.{_≡_, refl, sym, _∙_, ap}
 use borrow.Author.Needs.{needs}
-use borrow.Author.Tests.{not-true, not-false}
-use lib.Dec.{ltb}
 use Rattle.letters.specs.Names.{isPrefix}
-use Rattle.letters.proofs.Words.{prefix-parts}
-use Rattle.letters.proofs.LetterSet.{ones-sum}
-use Rattle.model.specs.Lists.{lastMission}
-use Rattle.model.proofs.Refusals.{mission-over, mission-under}
-use Rattle.rows.specs.Table.{lengthOk}
-use Rattle.rows.proofs.Rules.{start-inside}
-use Rattle.calls.proofs.Walks.{walk-follows}
+use Rattle.model.specs.Call.Call.{next}
+use Rattle.answers.specs.declared.cases.Refusal.the-variants.{Name}
+use Rattle.answers.specs.Replies.{replyOf}
+use Rattle.promises.specs.Books.{bookOf}
+use Rattle.promises.specs.Walks.{nextWalk}
+use Rattle.promises.proofs.Meeting.{promises, promises-refused}
+use Rattle.admitting.specs.Admission.{ifFine, walkTests}
+use Rattle.admitting.proofs.Admitting.{fine-true, walk-begins, walk-admitted, done-first, refused-first}
 use Rattle.calls.proofs.follows.next.Statement.{statement}
 use Rattle.calls.proofs.follows.next.Tie as tie
-
-length-fine : (c : tie.Else1) → lengthOk (c .before .before .before .before .args .t .now) ≡ true
-length-fine c = sym (c .before .length-ok .ensures) ∙ not-false _ (c .if1 .left)
-
-mission-fine : (c : tie.Else2) → ltb lastMission (c .before .before .before .before .before .args .m) ≡ false
-mission-fine c = mission-under _ (c .if2 .left)
-
-prefix-fine : (c : tie.Else3) → isPrefix (c .before .before .before .before .before .before .before .args .prefix .now) ≡ true
-prefix-fine c = sym (c .before .is-prefix .ensures) ∙ not-false _ (c .if3 .left)
-
-length-ok-requires : tie.Need-length-ok-requires
-length-ok-requires c κs = search needs
-
-returns : tie.Need-returns
-returns c = walk-follows _ _ _ _ (rw (sym (c .before .length-ok .ensures) ∙ not-true _ (c .if1 .taken)))
-
-returns-2 : tie.Need-returns-2
-returns-2 c = walk-follows _ _ _ _ (rw (length-fine (c .before), mission-over _ (c .if2 .taken)))
 
 is-prefix-requires : tie.Need-is-prefix-requires
 is-prefix-requires c κs = search needs
 
-returns-3 : tie.Need-returns-3
-returns-3 c =
-    let m = c .before .before in
-    walk-follows _ _ _ _ (rw (length-fine (m .before), mission-fine m, sym (c .before .is-prefix .ensures) ∙ not-true _ (c .if3 .taken)))
+if-fine-requires : tie.Need-if-fine-requires
+if-fine-requires c κs = search needs
 
-walk-list-requires : tie.Need-walk-list-requires
-walk-list-requires c κs =
-    let m = c .before .before in
-    (start-inside _ (length-fine (m .before)) _ (m .if2 .left), prefix-parts _ (prefix-fine c) .1)
+admit-walk-requires : tie.Need-admit-walk-requires
+admit-walk-requires c κs = search needs
 
-letter-set-requires : tie.Need-letter-set-requires
-letter-set-requires c κs = search needs
+enum-told : tie.Need-enum-told
+enum-told c = search needs
 
-letter-count-requires : tie.Need-letter-count-requires
-letter-count-requires c κs = search needs
+-- what was found of the prefix
+found : (c : tie.After-if-fine) → c .if-fine .result ≡ ifFine (isPrefix (c .before .before .before .before .args .prefix .now)) Name
+found c = c .if-fine .ensures ∙ rw (c .before .is-prefix .ensures)
 
-returns-4 : tie.Need-returns-4
-returns-4 c =
-    let walked = c .before .before in
-    let fine = walked .before in
-    let m = fine .before .before in
-    walk-follows _ _ _ _
-    (rw (
-      length-fine (m .before),
-      mission-fine m,
-      prefix-fine fine,
-      c .letter-count .ensures,
-      c .before .letter-set .ensures,
-      ones-sum,
-      walked .walk-list .ensures,
-    ))
+next-walk-requires : tie.Need-next-walk-requires
+next-walk-requires c κs =
+    let tested = c .before .before in
+    let fine = walk-admitted _ (c .enum-told .given .1) _ _ (tested .admit-walk .ensures) in
+    (fine .length, fine .mission, fine-true _ Name (sym (found (tested .before)) ∙ fine .arguments))
+
+enum-known-r : tie.Need-enum-known-r
+enum-known-r c = search needs
+
+returns : tie.Need-returns
+returns c =
+    let told = c .before in
+    let tested = told .before .before in
+    let args = tested .before .before .before .before .before .args in
+    let t = args .t .now in
+    let prefix = args .prefix .now in
+    let number = rw (found (tested .before)) at (tested .admit-walk .ensures) in
+    let done = done-first (bookOf t) (nextWalk t (args .m) prefix) (walkTests (bookOf t) (args .m) (ifFine (isPrefix prefix) Name))
+    (walk-begins (bookOf t) (args .m) (isPrefix prefix) Name) (told .enum-told .given .1) number
+    in
+    promises t t (next (args .m) prefix) _ refl refl (c .next-walk .ensures ∙ sym (ap replyOf done))
+
+returns-2 : tie.Need-returns-2
+returns-2 c =
+    let tested = c .before .before .before in
+    let args = tested .before .before .before .before .before .args in
+    let t = args .t .now in
+    let prefix = args .prefix .now in
+    let number = rw (found (tested .before)) at (tested .admit-walk .ensures) in
+    promises-refused t (next (args .m) prefix) (c .before .r .given .0 .0) refl refl
+    (refused-first (bookOf t) (nextWalk t (args .m) prefix) (walkTests (bookOf t) (args .m) (ifFine (isPrefix prefix) Name)) 3
+    (walk-begins (bookOf t) (args .m) (isPrefix prefix) Name) (c .before .r .given .1) number)
 
 pub next-spec : {M : Type 1} → statement M
 next-spec =
     tie.close
     (tie.spec
-    length-ok-requires
-    returns
-    returns-2
     is-prefix-requires
-    returns-3
-    walk-list-requires
-    letter-set-requires
-    letter-count-requires
-    returns-4)
+    if-fine-requires
+    admit-walk-requires
+    enum-told
+    next-walk-requires
+    enum-known-r
+    returns
+    returns-2)

@@ -1,16 +1,23 @@
 -- `nth` meets its promise: its first tests refuse it, or leave a sound book, a mission and a buffer that is long enough. Assumes nothing.
+use mathlib.Core.Path.{_≡_, sym, _∙_}
 use borrow.Author.Needs.{needs}
 use borrow.Author.Tests.{leb-true}
 use lib.Dec.{leb}
-use lib.ListN.{length}
+use lib.ListN.{length, drop}
 use Rattle.letters.specs.Names.{longest}
 use Rattle.model.specs.Call.Call.{nth}
+use Rattle.model.specs.Run.{rule, run}
 use Rattle.model.proofs.Refusals.{over-most}
 use Rattle.answers.specs.declared.cases.Refusal.the-variants.{Buffer}
-use Rattle.admitting.proofs.Admitting.{admitted, refused-first}
-use Rattle.ranking.proofs.Outcomes.{refused-writes}
+use Rattle.promises.specs.Books.{bookOf}
+use Rattle.admitting.specs.Admission.{ifFine, firstTests}
+use Rattle.admitting.proofs.Admitting.{fine-true, first-begins, admitted, refused-first}
+use Rattle.ranking.proofs.Outcomes.{nth-refused}
 use Rattle.ranking.proofs.writes.nth.Statement.{statement}
 use Rattle.ranking.proofs.writes.nth.Tie as tie
+
+if-fine-requires : tie.Need-if-fine-requires
+if-fine-requires c κs = search needs
 
 admit-requires : tie.Need-admit-requires
 admit-requires c κs = search needs
@@ -20,8 +27,9 @@ enum-told c = search needs
 
 nth-in-list-requires : tie.Need-nth-in-list-requires
 nth-in-list-requires c κs =
-    let fine = admitted _ _ _ Buffer (c .before .enum-told .given .1) (c .before .before .before .admit .ensures) in
-    (fine .sound, fine .mission, leb-true longest _ (fine .fine))
+    let tested = c .before .before .before in
+    let fine = admitted _ (c .before .enum-told .given .1) _ _ (tested .admit .ensures) in
+    (fine .sound, fine .mission, leb-true longest _ (fine-true _ Buffer (sym (tested .before .if-fine .ensures) ∙ fine .arguments)))
 
 enum-known-r : tie.Need-enum-known-r
 enum-known-r c = search needs
@@ -33,18 +41,23 @@ returns : tie.Need-returns
 returns c = search needs
 
 returns-2 : tie.Need-returns-2
+unfolding run
 returns-2 c =
     let tested = c .before .before .before in
-    let args = tested .before .before .before .args in
+    let args = tested .before .before .before .before .args in
     let size = length (args .out .now) in
-    refused-writes _ _ _ _ _
-    (refused-first (args .t .now) (args .m) (leb longest size) Buffer (nth (args .m) (args .n) size) 4 (rw (over-most longest size))
-    (c .before .r .given .1) (tested .admit .ensures))
+    let b = bookOf (args .t .now) in
+    let call = nth (args .m) (args .n) size in
+    let fine = leb longest size in
+    nth-refused _ _ _ _ (c .before .r .given .0 .0)
+    (refused-first b (rule b call) (firstTests b (args .m) (ifFine fine Buffer)) 4 (rw (over-most longest size) (first-begins b (args .m) fine Buffer (drop 4 (rule b call .refusals))))
+    (c .before .r .given .1) (rw (tested .before .if-fine .ensures) at (tested .admit .ensures)))
 
 pub nth-spec : {M : Type 1} → statement M
 nth-spec =
     tie.close
     (tie.spec
+    if-fine-requires
     admit-requires
     enum-told
     nth-in-list-requires
