@@ -5,7 +5,7 @@ use native.Mathlib.Omega.{arith}
 use mathlib.Core.Path.{_≡_, refl, sym, _∙_}
 use mathlib.Core.Bool.{Bool, true, false, cond, not, Bool·beq, false≢true}
 use mathlib.Core.List.{List, []}
-use lib.ListN.{length}
+use lib.ListN.{length, drop}
 use Rattle.letters.specs.LetterSet.{flag}
 use Rattle.letters.specs.Words.{Word, Spelled, wordOf, same as same-word}
 use Rattle.letters.specs.Names.{isName}
@@ -15,10 +15,11 @@ use Rattle.sets.specs.Sets.{Words, member, Plain}
 use Rattle.sets.proofs.Sets.{plain-ext}
 use Rattle.model.specs.Lists.{missions, listOf, replace, hasNames}
 use Rattle.model.specs.Call.{Book}
-use Rattle.model.specs.Call.Call.{clear}
+use Rattle.model.specs.Call.Call.{add, remove, clear}
 use Rattle.model.specs.Refusals.{given}
 use Rattle.model.specs.Rules.{withName, leaves, setRule}
-use Rattle.model.specs.Run.{rule, refused, ruled, run}
+use Rattle.model.specs.Run.{refused, ruled, run}
+use Rattle.model.proofs.Changes.{run-ruled}
 use Rattle.model.proofs.Lists.{replace-itself}
 use Rattle.model.proofs.Names.{member-with-name, plain-with-name, with-name-empty}
 use Rattle.model.proofs.Refusals.{mission-under}
@@ -36,14 +37,16 @@ use Rattle.settling.proofs.Settling.{no-row-startable, clear-fits, settled}
 use Rattle.answers.specs.declared.cases.Refusal.{Refusal}
 use Rattle.answers.specs.declared.cases.Refusal.the-variants.{Name}
 use Rattle.answers.specs.declared.cases.Answer.the-variants as answer
-use Rattle.answers.specs.Replies.{refusalNumber}
+use Rattle.answers.specs.Replies.{answerReply}
+use Rattle.promises.specs.Books.{bookOf}
+use Rattle.promises.specs.Promises.{Changes}
 use Rattle.admitting.specs.declared.admits.Admission.{Admission}
 use Rattle.admitting.specs.declared.admits.Admission.the-variants.{Refused}
-use Rattle.admitting.specs.Books.{bookOf}
-use Rattle.admitting.specs.Admission.{firstTests, admissionNumber}
-use Rattle.admitting.proofs.Admitting.{refused-first}
-use Rattle.changing.specs.Promises.{setCall, settledAnswer, Changes}
-use Rattle.changing.proofs.Changes.{refused-changes, same-changes, same-fits, fits-or-not, done-changes, settled-changes}
+use Rattle.admitting.specs.Admission.{ifFine, firstTests, admissionNumber}
+use Rattle.admitting.proofs.Admitting.{first-begins, refused-first}
+use Rattle.ending.specs.Ending.{settledAnswer}
+use Rattle.ending.proofs.Changes.{refused-changes, same-changes, same-fits, fits-or-not, done-changes, settled-changes}
+use Rattle.changing.specs.Changing.{setCall}
 
 -- "1 if the list changed, else 0": the name is as wanted, or it is not
 pub beq-same : (a b : Bool) → Bool·beq a b ≡ true → a ≡ b
@@ -59,20 +62,19 @@ beq-other false true e = refl
 beq-other false false e = absurd (false≢true (sym e))
 
 -- add and remove go by one rule
-set-rule : (b : Book) (on : Bool) (m : ℕ) (name : List ℕ) → rule b (setCall on m name) ≡ setRule on b m name
-set-rule b true m name = refl
-set-rule b false m name = refl
-
-set-ruled : (t : Table) (on : Bool) (m : ℕ) (name : List ℕ) → run (bookOf t) (setCall on m name) ≡ ruled (bookOf t) (setRule on (bookOf t) m name)
-unfolding run
-set-ruled t on m name = rw (set-rule (bookOf t) on m name)
+set-ruled : (b : Book) (on : Bool) (m : ℕ) (name : List ℕ) → run b (setCall on m name) ≡ ruled b (setRule on b m name)
+set-ruled b true m name = run-ruled b (add m name)
+set-ruled b false m name = run-ruled b (remove m name)
 
 -- their first tests refuse them
 pub set-refused : (t : Table) (on : Bool) (m : ℕ) (name : List ℕ) {a : Admission} {r : Refusal} → a ≡ Refused r
-    → admissionNumber a ≡ given (firstTests (bookOf t) m (isName name) (refusalNumber Name)) → Changes t t (setCall on m name) (answer.Refused r)
-set-refused t on m name told e =
-    refused-changes t (setCall on m name) _
-    (refused-first t m (isName name) Name (setCall on m name) 4 (rw (set-rule (bookOf t) on m name)) told e)
+    → admissionNumber a ≡ given (firstTests (bookOf t) m (ifFine (isName name) Name)) → Changes t t (setCall on m name) (answerReply (answer.Refused r))
+set-refused t on m name {a} {r} told e =
+    let b = bookOf t in
+    refused-changes t (setCall on m name) r
+    (set-ruled b on m name
+    ∙ refused-first b (setRule on b m name) (firstTests b m (ifFine (isName name) Name)) 4
+    (first-begins b m (isName name) Name (drop 4 (setRule on b m name .refusals))) told e)
 
 module _ (t : Table) (s : sound t ≡ true) (m : ℕ) (h : m < missions) where
   abbrev list : Words
@@ -87,10 +89,10 @@ module _ (t : Table) (s : sound t ≡ true) (m : ℕ) (h : m < missions) where
         → run (bookOf t) (setCall on m name)
         ≡ cond done (leaves (replace (lists t) m wanted) (flag (not (Bool·beq b on)))) (refused 11 (bookOf t))
     set-run b e done f =
-        set-ruled t on m name ∙ rw (sound-length t s, mission-under m h, named, s, e) (fits-or-not t m wanted _ _ done f)
+        set-ruled (bookOf t) on m name ∙ rw (sound-length t s, mission-under m h, named, s, e) (fits-or-not t m wanted _ _ done f)
 
     -- the name is as wanted already
-    pub set-same : member (wordOf name) list ≡ on → Changes t t (setCall on m name) (answer.Done 0)
+    pub set-same : member (wordOf name) list ≡ on → Changes t t (setCall on m name) (answerReply (answer.Done 0))
     set-same e =
         same-changes t (setCall on m name) (set-run on e true (sym (rw same (same-fits t s m))) ∙ rw (same, replace-itself) (go on))
       where
@@ -116,7 +118,7 @@ module _ (t : Table) (s : sound t ≡ true) (m : ℕ) (h : m < missions) where
 
     -- the name is not yet as wanted, and the change was settled
     set-settled : member (wordOf name) list ≡ not on → (after : Table) (done : Bool) → Changed t after m wanted done
-        → Changes t after (setCall on m name) (settledAnswer done 1)
+        → Changes t after (setCall on m name) (answerReply (settledAnswer done 1))
     set-settled e after done c =
         settled-changes t after (setCall on m name) m wanted 1 (λ none. absurd (omega arith)) done c (set-run (not on) e done (c .says) ∙ go on done)
       where
@@ -140,7 +142,7 @@ module _ (t : Table) (s : sound t ≡ true) (m : ℕ) (h : m < missions) where
             with-name-no-empty = rw (word-rest name (name-parts name named .0)) (with-name-empty on _ _ _)
 
         pub path-settled : member (wordOf name) list ≡ not on → (after : Table) (done : Bool) → Settles u after m n done
-            → Changes t after (setCall on m name) (settledAnswer done 1)
+            → Changes t after (setCall on m name) (answerReply (settledAnswer done 1))
         path-settled e after done settles =
             let same : words u n ≡ wanted = rw (made .has, list-names t m h) in
             set-settled e after done
@@ -151,12 +153,12 @@ module _ (t : Table) (s : sound t ≡ true) (m : ℕ) (h : m < missions) where
   unfolding run
   clear-run b e = rw (sound-length t s, mission-under m h, s, e)
 
-  pub clear-none : start t m ≡ 0 → Changes t t (clear m) (answer.Done 0)
+  pub clear-none : start t m ≡ 0 → Changes t t (clear m) (answerReply (answer.Done 0))
   clear-none e =
       let none = no-start t m h e in
       same-changes t (clear m) (clear-run false (rw none) ∙ rw (← none, replace-itself))
 
-  pub clear-settled : 0 < start t m → (after : Table) (done : Bool) → Settles t after m 0 done → Changes t after (clear m) (answer.Done 1)
+  pub clear-settled : 0 < start t m → (after : Table) (done : Bool) → Settles t after m 0 done → Changes t after (clear m) (answerReply (answer.Done 1))
   clear-settled some after done settles =
       let tidy = sound-facts t s .tidy in
       let none : words t 0 ≡ [] = words-none t 0 (no-row t 0 refl) in

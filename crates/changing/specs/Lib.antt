@@ -1,2 +1,2 @@
--- What the changing calls promise. Assumes nothing.
-pub mod Promises
+-- What the functions say that change one list. Assumes nothing.
+pub mod Changing

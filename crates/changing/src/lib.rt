@@ -6,4 +6,3 @@ mod names;
 pub use clears::clear;
 pub use names::add;
 pub use names::remove;
-pub use names::settled;

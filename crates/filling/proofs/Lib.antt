@@ -1,4 +1,3 @@
--- How tight the promises of load and combine are, and what the proofs here share. Assumes nothing.
-pub mod Tight
+-- What load and combine come to. Assumes nothing.
 mod Filling
 mod Outcomes

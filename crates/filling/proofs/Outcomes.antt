@@ -10,18 +10,20 @@ use lib.ListN.{length, drop, length-map}
 use borrow.Author.Tests.{ltb-true, ltb-false, lt-ltb, le-ltb}
 use Rattle.letters.specs.Each.{Each}
 use Rattle.letters.specs.LetterSet.{flag}
+use Rattle.letters.specs.Words.{Word}
 use Rattle.letters.specs.Lists.{longestList, linesOf, namesOf, isList}
 use Rattle.letters.proofs.Words.{name-parts}
 use Rattle.letters.proofs.Lines.{lines-few, names-each, list-parts}
 use Rattle.sets.specs.Sets.{Words, member}
 use Rattle.sets.proofs.Sets.{member-each}
 use Rattle.model.specs.Lists.{lastMission, missions, listOf, replace, hasNames}
-use Rattle.model.specs.Call.{Call, Book}
+use Rattle.model.specs.Call.{Call}
 use Rattle.model.specs.Call.Call.{load, combine}
 use Rattle.model.specs.Refusals.{isOperation, given}
 use Rattle.model.specs.Rules.{leaves, combined}
-use Rattle.model.specs.Run.{rule, refused, ruled, run}
+use Rattle.model.specs.Run.{rule, refused, run}
 use Rattle.model.proofs.Refusals.{mission-under}
+use Rattle.model.proofs.Changes.{run-ruled}
 use Rattle.model.proofs.Combined.{member-combined, chosen-none}
 use Rattle.rows.specs.Table.{Table, rowCount, lengthOk, start}
 use Rattle.rows.specs.Words.{words, lists}
@@ -33,26 +35,22 @@ use Rattle.rows.proofs.Facts.{named-inside}
 use Rattle.rows.proofs.Books.{list-names, no-start, no-empty, row-names, start-names}
 use Rattle.growing.specs.Growing.{MadeRow, MadeFull}
 use Rattle.settling.specs.Settled.{fits, Startable, Settles}
-use Rattle.answers.specs.declared.cases.Refusal.the-variants.{NotEmpty, NoRoom}
+use Rattle.answers.specs.declared.cases.Refusal.the-variants.{Operation, NotEmpty, NoRoom}
 use Rattle.answers.specs.declared.cases.Answer.the-variants as answer
-use Rattle.admitting.specs.Books.{bookOf}
-use Rattle.admitting.specs.Admission.{firstTests}
-use Rattle.changing.specs.Promises.{settledAnswer, Changes}
-use Rattle.changing.proofs.Changes.{refused-changes, fits-or-not, settled-changes}
+use Rattle.answers.specs.Replies.{answerReply}
+use Rattle.promises.specs.Books.{bookOf}
+use Rattle.promises.specs.Promises.{Changes}
+use Rattle.admitting.specs.Admission.{ifFine, firstTests}
+use Rattle.admitting.proofs.Admitting.{first-begins}
+use Rattle.ending.specs.Ending.{settledAnswer}
+use Rattle.ending.proofs.Changes.{refused-changes, fits-or-not, settled-changes}
 use Rattle.filling.specs.Filling.{Loadable, highest, Combinable}
 use Rattle.filling.proofs.Filling.{full-changed, row-startable, row-changed, row-same}
 
-run-ruled : (b : Book) (call : Call) → run b call ≡ ruled b (rule b call)
-unfolding run
-run-ruled b call = refl
-
-none-or-names : (l : Words) → flag (hasNames l) ≡ 0 → l ≡ []
-none-or-names [] e = refl
-none-or-names (w ∷ l) e = absurd (omega arith)
-
-none-or-some : (l : Words) → length l ≡ 0 → l ≡ []
-none-or-some [] e = refl
-none-or-some (w ∷ l) e = absurd (omega arith)
+-- a list whose value is 0 has no names
+none-or-some : (value : Words → ℕ) → ((w : Word) (l : Words) → 0 < value (w ∷ l)) → (l : Words) → value l ≡ 0 → l ≡ []
+none-or-some value some [] e = refl
+none-or-some value some (w ∷ l) e = absurd (omega (arith, some w l))
 
 -- ---- a call that fills the empty list of mission m with the names l, and then answers the value v
 
@@ -65,7 +63,7 @@ pub record Fills (t : Table) (m : ℕ) (call : Call) (l : Words) (v : ℕ) : Typ
   pub says : (done : Bool) → done ≡ fits t m l → run (bookOf t) call ≡ cond done (leaves (replace (lists t) m l) v) (refused 11 (bookOf t))
 
 module _ {t : Table} {m : ℕ} {call : Call} {l : Words} {v : ℕ} (fills : Fills t m call l v) where
-  pub filled-full : (u after : Table) (most : ℕ) → MadeFull most t u l → after ≡ swept u → Changes t after call (answer.Refused NoRoom)
+  pub filled-full : (u after : Table) (most : ℕ) → MadeFull most t u l → after ≡ swept u → Changes t after call (answerReply (answer.Refused NoRoom))
   filled-full u after most full e =
       let c = full-changed t (fills .sound) m (fills .mission) (fills .empty) l u after most full e in
       settled-changes t after call m l v (λ _. c .refused refl) false c (fills .says false (c .says))
@@ -74,7 +72,7 @@ module _ {t : Table} {m : ℕ} {call : Call} {l : Words} {v : ℕ} (fills : Fill
     pub filled-startable : Startable u r
     filled-startable = row-startable t (fills .sound) m (fills .mission) (fills .empty) l u most r made (fills .names)
 
-    pub filled-settled : (after : Table) (done : Bool) → Settles u after m r done → Changes t after call (settledAnswer done v)
+    pub filled-settled : (after : Table) (done : Bool) → Settles u after m r done → Changes t after call (answerReply (settledAnswer done v))
     filled-settled after done settles =
         let c = row-changed t (fills .sound) m (fills .mission) (fills .empty) l u most r made (fills .names) after done settles in
         let same = row-same t (fills .sound) m (fills .mission) (fills .empty) l u most r made (fills .names) after done settles in
@@ -97,7 +95,7 @@ pub list-few : (list : List ℕ) → isList list ≡ true → length (namesOf li
 list-few list e = rw length-map (omega (arith, list-parts list e .0, lines-few list))
 
 module _ (t : Table) (m : ℕ) (list : List ℕ) (fine : Loadable t m list) where
-  pub load-not-empty : 0 < start t m → Changes t t (load m list) (answer.Refused NotEmpty)
+  pub load-not-empty : 0 < start t m → Changes t t (load m list) (answerReply (answer.Refused NotEmpty))
   load-not-empty some =
       let full = start-names t (sound-facts t (fine .sound) .tidy) m (fine .mission) some in
       refused-changes t (load m list) NotEmpty
@@ -111,7 +109,7 @@ module _ (t : Table) (m : ℕ) (list : List ℕ) (fine : Loadable t m list) wher
         mission = fine .mission;
         empty = empty;
         names = list-no-empty list (fine .listed);
-        nothing = none-or-some (namesOf list);
+        nothing = none-or-some length (λ w l. omega arith) (namesOf list);
         says = λ done e. run-ruled (bookOf t) (load m list)
             ∙ rw (sound-length t (fine .sound), mission-under m (fine .mission), fine .listed, fine .sound, none) (fits-or-not t m (namesOf list) _ _ done e);
       }
@@ -135,8 +133,10 @@ over-any a b c = go (ltb lastMission a) refl (ltb lastMission b) refl (ltb lastM
 
 -- the first refusals of combine are the first tests of a call
 pub combine-begins : (t : Table) (op a b c : ℕ) → let refusals = rule (bookOf t) (combine op a b c) .refusals in
-    given refusals ≡ given (firstTests (bookOf t) (highest a b c) (isOperation op) 3 ++ drop 6 refusals)
-combine-begins t op a b c = rw (over-any a b c) (go (ltb lastMission a) (ltb lastMission b) (ltb lastMission c))
+    given refusals ≡ given (firstTests (bookOf t) (highest a b c) (ifFine (isOperation op) Operation) ++ drop 6 refusals)
+combine-begins t op a b c =
+    rw (over-any a b c) (go (ltb lastMission a) (ltb lastMission b) (ltb lastMission c))
+    ∙ first-begins (bookOf t) (highest a b c) (isOperation op) Operation (drop 6 (rule (bookOf t) (combine op a b c) .refusals))
   where
     rest : ℕ
     rest = given (drop 4 (rule (bookOf t) (combine op a b c) .refusals))
@@ -157,7 +157,7 @@ module _ (t : Table) (op a b c : ℕ) (fine : Combinable t op a b c) where
   pub third : c < missions
   third = omega (arith, fine .missions)
 
-  pub combine-not-empty : 0 < start t c → Changes t t (combine op a b c) (answer.Refused NotEmpty)
+  pub combine-not-empty : 0 < start t c → Changes t t (combine op a b c) (answerReply (answer.Refused NotEmpty))
   combine-not-empty some =
       let full = start-names t (sound-facts t (fine .sound) .tidy) c third some in
       refused-changes t (combine op a b c) NotEmpty
@@ -174,7 +174,7 @@ module _ (t : Table) (op a b c : ℕ) (fine : Combinable t op a b c) where
         mission = third;
         empty = empty;
         names = member-combined op [] _ _ ∙ rw (no-empty t tidy a first, no-empty t tidy b second) (chosen-none op);
-        nothing = none-or-names result;
+        nothing = none-or-some (λ l. flag (hasNames l)) (λ w l. omega arith) result;
         says = says;
       }
     where

@@ -2,10 +2,11 @@
 use super::rooms::no_room;
 use admitting::Admission;
 use admitting::admit_indexed;
+use admitting::if_fine;
 use answers::Answer;
 use answers::Refusal;
 use building::build_list;
-use changing::settled;
+use ending::settled;
 use growing::Made;
 use index::INDEX;
 use letters::is_list;
@@ -13,16 +14,18 @@ use letters::name_count;
 use rows::start;
 use settling::settle;
 ghost use mathlib.Core.Path.{_≡_};
+ghost use mathlib.Core.List.{[]};
 ghost use Rattle.model.specs.Call.Call.{load};
 ghost use Rattle.rows.specs.Table.{start};
 ghost use Rattle.index.specs.Index.{Indexed};
-ghost use Rattle.changing.specs.Promises.{Changes};
+ghost use Rattle.answers.specs.Replies.{answerReply};
+ghost use Rattle.promises.specs.Promises.{Changes, Promised};
 ghost use Rattle.filling.specs.Filling.{Loadable};
 
 // On a sound book, a list for a mission that has none.
 fn fill_list(t: &mut [u16], index: &mut [u16], m: usize, list: &[u8]) -> Answer
     requires { ⌜ Loadable (now t) m (now list) × Indexed (now t) (now index) × (start (now t) m ≡ 0) ⌝ }
-    ensures { λ a. ⌜ Changes (now (t .entry)) (now (t .exit)) (load m (now (list .entry))) a ⌝ }
+    ensures { λ a. ⌜ Changes (now (t .entry)) (now (t .exit)) (load m (now (list .entry))) (answerReply a) ⌝ }
 {
     let names = name_count(list) as u32;
     match build_list(t, index, list) {
@@ -34,7 +37,7 @@ fn fill_list(t: &mut [u16], index: &mut [u16], m: usize, list: &[u8]) -> Answer
 // On a sound book: refusal 8, and the rest.
 fn load_list(t: &mut [u16], index: &mut [u16], m: usize, list: &[u8]) -> Answer
     requires { ⌜ Loadable (now t) m (now list) × Indexed (now t) (now index) ⌝ }
-    ensures { λ a. ⌜ Changes (now (t .entry)) (now (t .exit)) (load m (now (list .entry))) a ⌝ }
+    ensures { λ a. ⌜ Changes (now (t .entry)) (now (t .exit)) (load m (now (list .entry))) (answerReply a) ⌝ }
 {
     if start(t, m) != 0 {
         return Answer::Refused(Refusal::NotEmpty);
@@ -43,10 +46,10 @@ fn load_list(t: &mut [u16], index: &mut [u16], m: usize, list: &[u8]) -> Answer
 }
 
 pub fn load(t: &mut [u16], m: u32, list: &[u8]) -> Answer
-    ensures { λ a. ⌜ Changes (now (t .entry)) (now (t .exit)) (load m (now (list .entry))) a ⌝ }
+    ensures { λ a. ⌜ Promised (now (t .entry)) (now (t .exit)) [] [] (load m (now (list .entry))) (answerReply a) ⌝ }
 {
     let mut index = [0u16; INDEX];
-    match admit_indexed(t, m, is_list(list), Refusal::List, &mut index) {
+    match admit_indexed(t, m, if_fine(is_list(list), Refusal::List), &mut index) {
         Admission::Admitted => load_list(t, &mut index, m as usize, list),
         Admission::Refused(r) => Answer::Refused(r),
     }

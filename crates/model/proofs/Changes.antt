@@ -19,6 +19,11 @@ use Rattle.model.specs.Changes.{changes}
 use Rattle.model.proofs.Lists.{replace-other}
 use Rattle.model.proofs.Refusals.{lowest-given}
 
+-- a call comes to what its rule comes to
+pub run-ruled : (b : Book) (c : Call) → run b c ≡ ruled b (rule b c)
+unfolding run
+run-ruled b c = refl
+
 module _ (b : Book) where
   -- whatever is read of the lists
   pub refused-or-done : {A : Type 0} (read : List Words → A) (r : Rule) → read (r .done .lists) ≡ read (b .lists)

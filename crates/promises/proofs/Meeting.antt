@@ -1,6 +1,6 @@
 -- How a function meets the promise of its call: a call that is lent no answer buffer writes nothing, so its reply and its table are all there is
 -- to say. Assumes nothing.
-use mathlib.Core.Path.{_≡_, refl, sym, ap}
+use mathlib.Core.Path.{_≡_, refl, sym, _∙_, ap}
 use mathlib.Core.Bool.{Bool, true, false, false≢true}
 use mathlib.Core.List.{[]}
 use Rattle.model.specs.Call.{Call, Outcome}
@@ -12,7 +12,7 @@ use Rattle.answers.specs.declared.replies.Reply.{Reply}
 use Rattle.answers.specs.Replies.{refusalNumber, replyOf, refused as refusedReply}
 use Rattle.promises.specs.Books.{bookOf}
 use Rattle.promises.specs.Walks.{askWalk, nextWalk}
-use Rattle.promises.specs.Promises.{outcomeOf, replyTo, Leaves, Promised}
+use Rattle.promises.specs.Promises.{outcomeOf, replyTo, Becomes, Changes, Leaves, Promised}
 use Rattle.promises.proofs.Outcomes.{ruled-either}
 
 abbrev hasBuffer : Call → Bool
@@ -57,3 +57,10 @@ promises t after call reply none leaves answers = record { answers = answers; bu
 pub promises-refused : (t : Table) (call : Call) (why : Refusal) → hasBuffer call ≡ false → Leaves t t call
     → outcomeOf t call ≡ refused (refusalNumber why) (bookOf t) → Promised t t [] [] call (refusedReply why)
 promises-refused t call why none leaves e = promises t t call (refusedReply why) none leaves (sym (ap replyOf e))
+
+-- it is a change
+pub promises-change : (t after : Table) (call : Call) (reply : Reply) → hasBuffer call ≡ false
+    → (Becomes t after (run (bookOf t) call) → Leaves t after call) → outcomeOf t call ≡ run (bookOf t) call → Changes t after call reply
+    → Promised t after [] [] call reply
+promises-change t after call reply none leaves same p =
+    promises t after call reply none (leaves (p .becomes)) (p .answers ∙ sym (ap replyOf same))

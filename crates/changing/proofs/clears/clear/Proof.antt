@@ -1,11 +1,14 @@
 -- `clear` meets its promise: its first tests refuse it, or leave a sound book with its index, and a mission. Assumes nothing.
 use mathlib.Core.Path.{refl}
-use mathlib.Core.Bool.{true}
 use borrow.Author.Needs.{needs}
 use Rattle.model.specs.Call.Call.{clear}
-use Rattle.answers.specs.declared.cases.Refusal.the-variants.{NotSound}
+use Rattle.model.specs.Run.{rule, run}
+use Rattle.promises.specs.Books.{bookOf}
+use Rattle.promises.proofs.Meeting.{promises-change}
+use Rattle.admitting.specs.declared.admits.Admission.the-variants.{Admitted}
+use Rattle.admitting.specs.Admission.{firstTests}
 use Rattle.admitting.proofs.Admitting.{admitted, refused-first}
-use Rattle.changing.proofs.Changes.{refused-changes}
+use Rattle.ending.proofs.Changes.{refused-changes}
 use Rattle.changing.proofs.clears.clear.Statement.{statement}
 use Rattle.changing.proofs.clears.clear.Tie as tie
 
@@ -25,7 +28,7 @@ clear-list-requires : tie.Need-clear-list-requires
 clear-list-requires c κs =
     let tested = c .before .before .before .before .before in
     let told = c .before .before .enum-told .given .1 in
-    let fine = admitted _ _ true NotSound told (tested .admit-indexed .ensures .0) in
+    let fine = admitted _ told _ Admitted (tested .admit-indexed .ensures .0) in
     (fine .sound, tested .admit-indexed .ensures .1 told, fine .mission)
 
 enum-known-r : tie.Need-enum-known-r
@@ -35,17 +38,20 @@ same-length : tie.Need-same-length
 same-length c = search needs
 
 returns : tie.Need-returns
-returns c = search needs
+returns c = promises-change _ _ (clear _) _ refl (λ p. p) refl (c .before .before .clear-list .ensures)
 
 same-length-2 : tie.Need-same-length-2
 same-length-2 c = search needs
 
 returns-2 : tie.Need-returns-2
+unfolding run
 returns-2 c =
     let tested = c .before .before .before .before in
     let args = tested .before .before .before .before .args in
-    refused-changes _ _ _
-    (refused-first (args .t .now) (args .m) true NotSound (clear (args .m)) 3 refl (c .before .r .given .1) (tested .admit-indexed .ensures .0))
+    let b = bookOf (args .t .now) in
+    promises-change _ _ (clear (args .m)) _ refl (λ p. p) refl
+    (refused-changes (args .t .now) (clear (args .m)) (c .before .r .given .0 .0)
+    (refused-first b (rule b (clear (args .m))) (firstTests b (args .m) Admitted) 3 refl (c .before .r .given .1) (tested .admit-indexed .ensures .0)))
 
 pub clear-spec : {M : Type 1} → statement M
 clear-spec =

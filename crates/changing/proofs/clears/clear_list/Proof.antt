@@ -3,7 +3,7 @@ use native.Mathlib.Omega.{arith}
 use borrow.Author.Needs.{needs}
 use Rattle.rows.proofs.Rules.{sound-facts, sound-length, start-inside}
 use Rattle.settling.proofs.Settling.{no-row-startable}
-use Rattle.changing.proofs.Reached.{all-reached}
+use Rattle.ending.proofs.Reached.{all-reached}
 use Rattle.changing.proofs.Outcomes.{clear-none, clear-settled}
 use Rattle.changing.proofs.clears.clear_list.Statement.{statement}
 use Rattle.changing.proofs.clears.clear_list.Tie as tie

@@ -4,7 +4,7 @@ use borrow.Author.Needs.{needs}
 use Rattle.letters.proofs.Words.{name-parts}
 use Rattle.rows.proofs.Rules.{sound-facts, sound-length, start-inside}
 use Rattle.rows.proofs.Books.{start-named}
-use Rattle.changing.proofs.Reached.{made-reached}
+use Rattle.ending.proofs.Reached.{made-reached}
 use Rattle.changing.proofs.Outcomes.{never-full, path-startable, path-settled}
 use Rattle.changing.proofs.names.change_name.Statement.{statement}
 use Rattle.changing.proofs.names.change_name.Tie as tie

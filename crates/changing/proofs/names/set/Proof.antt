@@ -1,14 +1,19 @@
 -- `set` meets its promise: its first tests refuse it, or leave a sound book with its index, a mission and a name. Assumes nothing.
-use mathlib.Core.Path.{sym, _∙_}
+use mathlib.Core.Path.{_≡_, sym, _∙_}
 use borrow.Author.Needs.{needs}
+use Rattle.letters.specs.Names.{isName}
 use Rattle.answers.specs.declared.cases.Refusal.the-variants.{Name}
-use Rattle.admitting.proofs.Admitting.{admitted}
+use Rattle.admitting.specs.Admission.{ifFine}
+use Rattle.admitting.proofs.Admitting.{fine-true, admitted}
 use Rattle.changing.proofs.Outcomes.{set-refused}
 use Rattle.changing.proofs.names.set.Statement.{statement}
 use Rattle.changing.proofs.names.set.Tie as tie
 
 is-name-requires : tie.Need-is-name-requires
 is-name-requires c κs = search needs
+
+if-fine-requires : tie.Need-if-fine-requires
+if-fine-requires c κs = search needs
 
 slice-aggregate-admit-indexed : tie.Need-slice-aggregate-admit-indexed
 slice-aggregate-admit-indexed c = search needs
@@ -22,12 +27,20 @@ enum-told c = search needs
 slice-aggregate-set-name : tie.Need-slice-aggregate-set-name
 slice-aggregate-set-name c = search needs
 
+-- what was found of the name
+found : (c : tie.After-if-fine) → c .if-fine .result ≡ ifFine (isName (c .before .before .before .before .before .args .name .now)) Name
+found c = c .if-fine .ensures ∙ rw (c .before .is-name .ensures)
+
 set-name-requires : tie.Need-set-name-requires
 set-name-requires c κs =
     let tested = c .before .before .before .before .before in
     let told = c .before .before .enum-told .given .1 in
-    let fine = admitted _ _ _ Name told (tested .admit-indexed .ensures .0) in (
-      record { sound = fine .sound; mission = fine .mission; named = sym (tested .before .before .is-name .ensures) ∙ fine .fine },
+    let fine = admitted _ told _ _ (tested .admit-indexed .ensures .0) in (
+      record {
+        sound = fine .sound;
+        mission = fine .mission;
+        named = fine-true _ Name (sym (found (tested .before .before)) ∙ fine .arguments);
+      },
       tested .admit-indexed .ensures .1 told,
     )
 
@@ -46,16 +59,17 @@ same-length-2 c = search needs
 returns-2 : tie.Need-returns-2
 returns-2 c =
     let tested = c .before .before .before .before in
-    let named = tested .before .before in
-    let args = named .before .before .before .before .args in
+    let fine = tested .before .before in
+    let args = fine .before .before .before .before .before .args in
     set-refused (args .t .now) (args .on) (args .m) (args .name .now) (c .before .r .given .1)
-    (rw (named .is-name .ensures) at (tested .admit-indexed .ensures .0))
+    (rw (found fine) at (tested .admit-indexed .ensures .0))
 
 pub set-spec : {M : Type 1} → statement M
 set-spec =
     tie.close
     (tie.spec
     is-name-requires
+    if-fine-requires
     slice-aggregate-admit-indexed
     admit-indexed-requires
     enum-told

@@ -4,7 +4,7 @@ use native.Mathlib.Omega.{arith}
 use borrow.Author.Needs.{needs}
 use Rattle.rows.proofs.Rules.{sound-facts, sound-length, start-inside}
 use Rattle.rows.proofs.Books.{start-named}
-use Rattle.changing.proofs.Reached.{made-reached}
+use Rattle.ending.proofs.Reached.{made-reached}
 use Rattle.filling.proofs.Outcomes.{first, second, third, combine-fills, combined-value, filled-full, filled-startable, filled-settled}
 use Rattle.filling.proofs.combines.fill_combined.Statement.{statement}
 use Rattle.filling.proofs.combines.fill_combined.Tie as tie

@@ -3,7 +3,7 @@
 use native.Mathlib.Omega.{arith}
 use borrow.Author.Needs.{needs}
 use Rattle.rows.proofs.Rules.{sound-facts}
-use Rattle.changing.proofs.Reached.{made-reached}
+use Rattle.ending.proofs.Reached.{made-reached}
 use Rattle.filling.proofs.Outcomes.{list-few, load-fills, filled-full, filled-startable, filled-settled}
 use Rattle.filling.proofs.loads.fill_list.Statement.{statement}
 use Rattle.filling.proofs.loads.fill_list.Tie as tie

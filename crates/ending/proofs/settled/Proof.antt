@@ -1,6 +1,6 @@
 -- `settled` meets its promise: the branch settles the answer. Assumes nothing.
-use Rattle.changing.proofs.names.settled.Statement.{statement}
-use Rattle.changing.proofs.names.settled.Tie as tie
+use Rattle.ending.proofs.settled.Statement.{statement}
+use Rattle.ending.proofs.settled.Tie as tie
 
 returns : tie.Need-returns
 returns c = rw (c .if1 .taken)

@@ -25,20 +25,22 @@ use Rattle.answers.specs.declared.cases.Refusal.{Refusal}
 use Rattle.answers.specs.declared.cases.Refusal.the-variants.{NoRoom}
 use Rattle.answers.specs.declared.cases.Answer.{Answer}
 use Rattle.answers.specs.declared.cases.Answer.the-variants as answer
-use Rattle.answers.specs.Replies.{refusalNumber}
-use Rattle.admitting.specs.Books.{bookOf}
-use Rattle.calls.specs.Promises.{Answers}
-use Rattle.changing.specs.Promises.{settledAnswer, Changes}
+use Rattle.answers.specs.Replies.{refusalNumber, answerReply, replyOf}
+use Rattle.promises.specs.Books.{bookOf}
+use Rattle.promises.specs.Promises.{Changes}
+use Rattle.ending.specs.Ending.{settledAnswer}
 
 -- nothing changes: on a refusal, and where the list is as it was
-unchanged : (t : Table) (call : Call) (a : Answer) → Answers t call a → run (bookOf t) call .lists ≡ lists t → Changes t t call a
-unchanged t call a answers same = record { answers = answers; same = λ _. refl; long = refl; sound = λ s. s; lists = sym same }
+unchanged : (t : Table) (call : Call) (a : Answer) → answerReply a ≡ replyOf (run (bookOf t) call) → run (bookOf t) call .lists ≡ lists t
+    → Changes t t call (answerReply a)
+unchanged t call a answers same =
+    record { answers = answers; becomes = record { same = λ _. refl; long = refl; sound = λ s. s; lists = sym same } }
 
 pub refused-changes : (t : Table) (call : Call) (r : Refusal) → run (bookOf t) call ≡ refused (refusalNumber r) (bookOf t)
-    → Changes t t call (answer.Refused r)
+    → Changes t t call (answerReply (answer.Refused r))
 refused-changes t call r e = unchanged t call (answer.Refused r) (rw e) (rw e)
 
-pub same-changes : (t : Table) (call : Call) → run (bookOf t) call ≡ leaves (lists t) 0 → Changes t t call (answer.Done 0)
+pub same-changes : (t : Table) (call : Call) → run (bookOf t) call ≡ leaves (lists t) 0 → Changes t t call (answerReply (answer.Done 0))
 same-changes t call e = unchanged t call (answer.Done 0) (rw e) (rw e)
 
 -- there is room for the lists as they are
@@ -57,13 +59,16 @@ fits-or-not t m l b answered done e = last-refusal b answered _ done (over-most 
 
 -- done, with these lists; where the value is 0, the table must be the same
 pub done-changes : (t after : Table) (call : Call) (ls : List Words) (value : ℕ) → (value ≡ 0 → after ≡ t) → run (bookOf t) call ≡ leaves ls value
-    → length after ≡ length t → sound after ≡ true → lists after ≡ ls → Changes t after call (answer.Done value)
+    → length after ≡ length t → sound after ≡ true → lists after ≡ ls → Changes t after call (answerReply (answer.Done value))
 done-changes t after call ls value same e long fine new =
-    record { answers = rw e; same = λ none. same (rw e at none); long = long; sound = λ _. fine; lists = rw e new }
+    record {
+      answers = rw e;
+      becomes = record { same = λ none. same (rw e at none); long = long; sound = λ _. fine; lists = rw e new };
+    }
 
 -- settled, where the model is as the lists fit
 pub settled-changes : (t after : Table) (call : Call) (m : ℕ) (l : Words) (value : ℕ) → (value ≡ 0 → after ≡ t) → (done : Bool)
     → Changed t after m l done → run (bookOf t) call ≡ cond done (leaves (replace (lists t) m l) value) (refused (refusalNumber NoRoom) (bookOf t))
-    → Changes t after call (settledAnswer done value)
+    → Changes t after call (answerReply (settledAnswer done value))
 settled-changes t after call m l value same true c e = done-changes t after call _ value same e (c .long) (c .sound) (c .lists)
 settled-changes t after call m l value same false c e = rw (c .refused refl) (refused-changes t call NoRoom e)

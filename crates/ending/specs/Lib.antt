@@ -1,0 +1,2 @@
+-- The answer to a change that was settled. Assumes nothing.
+pub mod Ending
