@@ -4,4 +4,5 @@ pub mod Steps
 pub mod Spelling
 pub mod Listed
 pub mod Fitting
+pub mod Loaded
 pub mod Tight
