@@ -15,14 +15,16 @@ use Rattle.sets.specs.Residuals.{need}
 use Rattle.sets.specs.Automata.{size, Theorem5, Minimal}
 use Rattle.sets.proofs.Served.{none-fewer}
 use Rattle.model.specs.Lists.{missions, listOf, mayFollow}
-use Rattle.rows.specs.Table.{Table, rowCount, start, starts, usedRows}
-use Rattle.rows.specs.Walk.{accepts, follows}
+use Rattle.rows.specs.Table.{Table, rowCount, start, starts, height, inUse, usedRows}
+use Rattle.rows.specs.Walk.{accepts, Longest, follows}
 use Rattle.rows.specs.Words.{words, lists}
 use Rattle.rows.specs.Rules.{sound}
 use Rattle.rows.specs.Tidy.{Used, Named, Tidy}
 use Rattle.rows.specs.Reach.{reaches, reachedFrom, reached}
 use Rattle.rows.specs.Growth.{Useful}
+use Rattle.rows.proofs.Facts.{in-use-used}
 use Rattle.rows.proofs.Rules.{sound-facts, facts-sound}
+use Rattle.rows.proofs.Heights.{height-longest}
 use Rattle.rows.proofs.Books.{lists-sixteen, lists-plain, lists-names, starts-named, ask-plain, next-plain, sound-reached}
 use Rattle.minimal.specs.Book.{automaton}
 use Rattle.minimal.specs.Places.{OneToOne}
@@ -129,3 +131,7 @@ sound-ask t e = ask-plain t (sound-facts t e .tidy)
 pub sound-next : (t : Table) → sound t ≡ true → (m : ℕ) → m < missions → (u : Word) → Spelled u → (x : ℕ) → x < letters
     → follows t u (start t m) x ≡ mayFollow u (listOf (lists t) m) x
 sound-next t e = next-plain t (sound-facts t e .tidy)
+
+-- In a sound book the height of a row in use is the length of the longest word accepted from there.
+pub sound-height : (t : Table) → sound t ≡ true → (r : ℕ) → inUse t r ≡ true → Longest t r (height t r)
+sound-height t e r used = height-longest t (sound-facts t e .tidy) r (in-use-used t r used)

@@ -1,7 +1,7 @@
 -- A name of a list stands behind as many names as its rank says, so nth gives it back, in the bytes that were added. In a rising list nothing
 -- behind a word stands before it, so by the rank only the words in front of it are counted. Assumes nothing.
 use Prim.Native.Nat.{ℕ}
-use mathlib.Core.Path.{_≡_, refl, sym, _∙_}
+use mathlib.Core.Path.{_≡_, refl}
 use mathlib.Core.Bool.{Bool, true, false, _||_, false≢true, and-eq-true-iff}
 use mathlib.Core.List.{List, [], _∷_}
 use Rattle.letters.specs.Words.{Word, wordOf, bytesOf, before, same}
@@ -13,11 +13,13 @@ use Rattle.sets.proofs.Sets.{member-keep, member-above, no-members}
 use Rattle.model.specs.Lists.{rankOf, nthOf}
 
 none-before : (w : Word) (l : Words) → Above w l → keep (λ v. before v w) l ≡ []
-none-before w l above =
-    no-members (keep (λ v. before v w) l) (λ v m.
-    let (early, there) = and-eq-true-iff (before v w) (member v l) .0 (rw member-keep at m) in
-    let itself = before-trans w v w (member-above w l above v there) early in
-    false≢true (rw order-refl at itself))
+none-before w l above = no-members (keep (λ v. before v w) l) none
+  where
+    none : (v : Word) → member v (keep (λ u. before u w) l) ≡ true → ⊥
+    none v m =
+        let (early, there) = and-eq-true-iff (before v w) (member v l) .0 (rw member-keep at m) in
+        let itself : before w w ≡ true = before-trans w v w (member-above w l above v there) early in
+        false≢true (rw order-refl at itself)
 
 rising-nth : (w : Word) (l : Words) → Rising l → member w l ≡ true → nthOf (rankOf w l) l ≡ w
 unfolding member keep
