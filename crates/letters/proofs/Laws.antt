@@ -1,5 +1,5 @@
 -- What is known of letters and their bytes, and all that is: what is proved by these laws holds for any letters that keep them. Beside the
--- proofs of `letter_of` and `byte_of`, nothing else looks into `letter` and `byteOf`. Assumes nothing.
+-- proofs of `letter_of` and `byte_of`, and `NameBytes.antt`, nothing else looks into `letter` and `byteOf`. Assumes nothing.
 use Prim.Native.Nat.{ℕ, zero, suc, _≤_, _<_}
 use mathlib.Core.Path.{_≡_, refl}
 use mathlib.Core.Bool.{Bool, true, _&&_, and-eq-true-iff}
@@ -11,14 +11,16 @@ use lib.Dec.{leb, ltb, eqb}
 use Rattle.letters.specs.Letters.{letters, lineEnd, within, letter, byteOf}
 use Rattle.letters.proofs.Tests.{by-test}
 
-within-le : (low high b : ℕ) → within low high b ≡ true → b ≤ high
-within-le low high b e = leb-true b high (and-eq-true-iff (leb low b) (leb b high) .0 e .1)
+pub within-bounds : (low high b : ℕ) → within low high b ≡ true → (low ≤ b) × (b ≤ high)
+within-bounds low high b e =
+    let (over, under) = and-eq-true-iff (leb low b) (leb b high) .0 e in
+    (leb-true low b over, leb-true b high under)
 
 pub letter-le : (b : ℕ) → letter b ≤ letters
 unfolding letter
 letter-le b =
-    by-test (within 0x30 0x39 b) (λ e. rw e (omega (arith, within-le 0x30 0x39 b e)))
-    (λ e. rw e (by-test (within 0x41 0x5A b) (λ e. rw e (omega (arith, within-le 0x41 0x5A b e)))
+    by-test (within 0x30 0x39 b) (λ e. rw e (omega (arith, within-bounds 0x30 0x39 b e)))
+    (λ e. rw e (by-test (within 0x41 0x5A b) (λ e. rw e (omega (arith, within-bounds 0x41 0x5A b e)))
     (λ e. rw e (by-test (eqb b 0x5F) (λ e. rw e (omega arith)) (λ e. rw e (omega arith))))))
 
 pub byteOf-lt : (x : ℕ) → byteOf x < 256

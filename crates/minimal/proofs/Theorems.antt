@@ -7,22 +7,23 @@ use mathlib.Core.List.{List, [], _∷_, map}
 use lib.ListN.{length}
 use Rattle.letters.specs.Each.{Each}
 use Rattle.letters.specs.Letters.{letters}
-use Rattle.letters.specs.Words.{Word, Spelled, bytesOf}
-use Rattle.letters.specs.Names.{isName}
+use Rattle.letters.specs.Words.{Word, Spelled}
 use Rattle.letters.specs.LetterSet.{countOf}
-use Rattle.sets.specs.Sets.{Words, member, Plain}
+use Rattle.sets.specs.Sets.{Words, member}
 use Rattle.sets.specs.Residuals.{need}
 use Rattle.sets.specs.Automata.{size, Theorem5, Minimal}
 use Rattle.sets.proofs.Served.{none-fewer}
-use Rattle.model.specs.Lists.{missions, listOf, mayFollow}
-use Rattle.rows.specs.Table.{Table, rowCount, start, starts, usedRows}
-use Rattle.rows.specs.Walk.{accepts, follows}
+use Rattle.model.specs.Lists.{missions, SixteenSets, listOf, mayFollow}
+use Rattle.rows.specs.Table.{Table, rowCount, start, starts, height, inUse, usedRows}
+use Rattle.rows.specs.Walk.{accepts, Longest, follows}
 use Rattle.rows.specs.Words.{words, lists}
 use Rattle.rows.specs.Rules.{sound}
 use Rattle.rows.specs.Tidy.{Used, Named, Tidy}
 use Rattle.rows.specs.Reach.{reaches, reachedFrom, reached}
 use Rattle.rows.specs.Growth.{Useful}
+use Rattle.rows.proofs.Facts.{in-use-used}
 use Rattle.rows.proofs.Rules.{sound-facts, facts-sound}
+use Rattle.rows.proofs.Heights.{height-longest}
 use Rattle.rows.proofs.Books.{lists-sixteen, lists-plain, lists-names, starts-named, ask-plain, next-plain, sound-reached}
 use Rattle.minimal.specs.Book.{automaton}
 use Rattle.minimal.specs.Places.{OneToOne}
@@ -116,9 +117,9 @@ renumbered-self t =
 pub same-lists-renumbered : (t u : Table) → sound t ≡ true → sound u ≡ true → length u ≡ length t → lists u ≡ lists t → Renumbered t u
 same-lists-renumbered t u d e = matched-renumbered t u (sound-facts t d) (sound-facts u e)
 
--- The lists of a sound book are sixteen rising lists of names.
-pub sound-lists : (t : Table) → sound t ≡ true → (length (lists t) ≡ missions) × Each Plain (lists t) × Each (Each (λ w. isName (bytesOf w) ≡ true)) (lists t)
-sound-lists t e = (lists-sixteen t, lists-plain t, lists-names t (sound-facts t e .tidy))
+-- The lists of a sound book are sixteen plain sets of names.
+pub sound-lists : (t : Table) → sound t ≡ true → SixteenSets (lists t)
+sound-lists t e = record { sixteen = lists-sixteen t; plain = lists-plain t; names = lists-names t (sound-facts t e .tidy) }
 
 -- On a sound book ask and next give the plain set answers: the walk of a word accepts exactly the names of the list, and a letter is reported
 -- exactly if some name of the list goes on with it.
@@ -129,3 +130,7 @@ sound-ask t e = ask-plain t (sound-facts t e .tidy)
 pub sound-next : (t : Table) → sound t ≡ true → (m : ℕ) → m < missions → (u : Word) → Spelled u → (x : ℕ) → x < letters
     → follows t u (start t m) x ≡ mayFollow u (listOf (lists t) m) x
 sound-next t e = next-plain t (sound-facts t e .tidy)
+
+-- In a sound book the height of a row in use is the length of the longest word accepted from there.
+pub sound-height : (t : Table) → sound t ≡ true → (r : ℕ) → inUse t r ≡ true → Longest t r (height t r)
+sound-height t e r used = height-longest t (sound-facts t e .tidy) r (in-use-used t r used)

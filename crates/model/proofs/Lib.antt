@@ -1,6 +1,9 @@
--- The laws of replacing one of the sixteen lists, and the lowest refusal. Assumes nothing.
+-- The laws of the sixteen lists and of a change to one of them, that nth gives back what was added, the lowest refusal, and when room refuses.
+-- Assumes nothing.
 pub mod Lists
+pub mod Ranks
 pub mod Refusals
 pub mod Names
 pub mod Combined
 pub mod Changes
+pub mod Room

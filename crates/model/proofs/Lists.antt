@@ -1,12 +1,14 @@
 -- Replacing one of the sixteen lists: that one is the new one, every other stays, by itself nothing changes, and two different ones may be
 -- replaced in either order.
--- The lists stand in a list by mission, so each is the library's law of `set`. Assumes nothing.
-use Prim.Native.Nat.{ℕ, _<_}
+-- The lists stand in a list by mission, so each is the library's law of `set`. What holds of each list holds of a mission's, and of each after a
+-- list was replaced by one that it holds of. Assumes nothing.
+use Prim.Native.Nat.{ℕ, zero, suc, _<_}
 use mathlib.Core.Path.{_≡_}
 use mathlib.Core.Logic.{_≢_}
-use mathlib.Core.List.{List}
+use mathlib.Core.List.{List, [], _∷_}
 use lib.ListN.{length}
 use lib.Seq.{getD-set-same, getD-set-other, set-getD, set-comm}
+use Rattle.letters.specs.Each.{Each}
 use Rattle.sets.specs.Sets.{Words}
 use Rattle.model.specs.Lists.{listOf, replace}
 
@@ -21,3 +23,13 @@ replace-itself ls m = set-getD ls m _
 
 pub replace-commute : (ls : List Words) (m n : ℕ) (k l : Words) → m ≢ n → replace (replace ls m k) n l ≡ replace (replace ls n l) m k
 replace-commute ls m n k l h = set-comm ls m n k l h
+
+pub list-each : (P : Words → Type 0) (ls : List Words) (m : ℕ) → Each P ls → P [] → P (listOf ls m)
+list-each P [] m each none = none
+list-each P (k ∷ ls) zero each none = each .0
+list-each P (k ∷ ls) (suc m) each none = list-each P ls m (each .1) none
+
+pub replace-each : (P : Words → Type 0) (ls : List Words) (m : ℕ) (l : Words) → Each P ls → P l → Each P (replace ls m l)
+replace-each P [] m l each new = tt
+replace-each P (k ∷ ls) zero l each new = (new, each .1)
+replace-each P (k ∷ ls) (suc m) l each new = (each .0, replace-each P ls m l (each .1) new)

@@ -4,12 +4,13 @@ use mathlib.Core.Path.{_≡_, refl, _∙_}
 use mathlib.Core.Bool.{Bool, true, false, cond, not, _&&_, _||_}
 use mathlib.Core.List.{[], _∷_}
 use borrow.Author.Tests.{eq-eqb}
+use Rattle.letters.specs.Each.{Each}
 use Rattle.letters.specs.Letters.{letters}
 use Rattle.letters.specs.Words.{Word, Spelled, order, same}
-use Rattle.letters.proofs.Order.{same-cons}
+use Rattle.letters.proofs.Order.{same-cons, same-eq}
 use Rattle.sets.specs.Sets.{Words, member, Plain}
 use Rattle.sets.specs.Residuals.{after}
-use Rattle.sets.proofs.Sets.{member-insert, member-delete, plain-insert, plain-delete, plain-ext}
+use Rattle.sets.proofs.Sets.{member-insert, member-delete, member-each, members-each, plain-insert, plain-delete, plain-ext}
 use Rattle.sets.proofs.Residuals.{member-after, plain-after}
 use Rattle.model.specs.Rules.{withName}
 
@@ -28,6 +29,14 @@ member-with-name false v w l = member-delete v w l ∙ go (same v w) (member v l
 pub plain-with-name : (on : Bool) (w : Word) (l : Words) → Spelled w → Plain l → Plain (withName on w l)
 plain-with-name true w l s p = plain-insert w l s p
 plain-with-name false w l s p = plain-delete w l p
+
+-- what holds of the name and of each word of the list holds of each word of the list with it or without it
+pub with-name-each : (P : Word → Type 0) (on : Bool) (w : Word) (l : Words) → P w → Each P l → Each P (withName on w l)
+with-name-each P on w l name each = members-each P (withName on w l) (λ v m. go v (same v w) refl (rw (member-with-name on v w l) at m))
+  where
+    go : (v : Word) (b : Bool) → same v w ≡ b → cond b on (member v l) ≡ true → P v
+    go v true e m = rw (same-eq v w e) name
+    go v false e m = member-each P l each v m
 
 -- a word that goes on leaves the empty word as it is
 pub with-name-empty : (on : Bool) (x : ℕ) (w : Word) (l : Words) → member [] (withName on (x ∷ w) l) ≡ member [] l

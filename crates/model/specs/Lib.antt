@@ -5,3 +5,4 @@ pub mod Refusals
 pub mod Rules
 pub mod Run
 pub mod Changes
+pub mod Room

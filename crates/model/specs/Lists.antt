@@ -1,10 +1,13 @@
 -- "A book holds sixteen lists of names for missions 0 to 15." Assumes nothing.
 use Prim.Native.Nat.{ℕ, suc}
+use mathlib.Core.Path.{_≡_}
 use mathlib.Core.Bool.{Bool, true, false}
 use mathlib.Core.List.{List, [], _∷_}
 use lib.ListN.{length, getD, set, replicate}
-use Rattle.letters.specs.Words.{Word, before}
-use Rattle.sets.specs.Sets.{Words, keep}
+use Rattle.letters.specs.Each.{Each}
+use Rattle.letters.specs.Words.{Word, bytesOf, before}
+use Rattle.letters.specs.Names.{isName}
+use Rattle.sets.specs.Sets.{Words, Plain, keep}
 use Rattle.sets.specs.Residuals.{residual, after}
 
 -- the greatest mission number, and how many missions there are
@@ -13,6 +16,12 @@ lastMission = 15
 
 abbrev pub missions : ℕ
 missions = suc lastMission
+
+-- "A book holds sixteen lists of names": sixteen plain sets of names
+pub record SixteenSets (ls : List Words) : Type 0 where
+  pub sixteen : length ls ≡ missions
+  pub plain : Each Plain ls
+  pub names : Each (Each (λ w. isName (bytesOf w) ≡ true)) ls
 
 -- the list of mission m, and the lists with another one for mission m
 abbrev pub listOf : List Words → ℕ → Words

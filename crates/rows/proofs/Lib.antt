@@ -3,6 +3,7 @@ pub mod Facts
 pub mod Cells
 pub mod Rules
 pub mod Walk
+pub mod Heights
 pub mod Words
 pub mod Reach
 pub mod Books

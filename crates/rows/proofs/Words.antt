@@ -3,7 +3,7 @@
 -- enough, and membership is the walk; what is left after a letter, what a row's words are made of, and where a walk leads then follow from
 -- membership alone. A row in use has a word, because heights fall until a mark is 2; and rows with the same words agree in mark and targets,
 -- from below upwards, so they are one row. Assumes nothing.
-use Prim.Native.Nat.{ℕ, zero, suc, _-_, _≤_, _<_}
+use Prim.Native.Nat.{ℕ, zero, suc, _≤_, _<_}
 use native.Mathlib.Omega.{arith}
 use native.Mathlib.Decide.{ℕ-discrete}
 use mathlib.Core.Path.{_≡_, refl, sym, _∙_}
@@ -24,12 +24,13 @@ use Rattle.sets.specs.Residuals.{after, residual}
 use Rattle.sets.proofs.Sets.{member-cond, member-each, members-each, members-above, rising-cond, plain-ext}
 use Rattle.sets.proofs.Residuals.{member-after, residual-none, plain-after}
 use Rattle.sets.proofs.Below.{some-at, member-over, rising-over}
-use Rattle.sets.proofs.States.{member-filled, filled-member, after-filled}
+use Rattle.sets.proofs.States.{member-filled, after-filled}
 use Rattle.rows.specs.Table.{Table, isRow, mark, height, target}
 use Rattle.rows.specs.Walk.{walkFrom, accepts}
 use Rattle.rows.specs.Words.{behind, fan, rowWords, shortWords, words}
 use Rattle.rows.specs.Tidy.{Used, Named, Arc, Tidy}
 use Rattle.rows.proofs.Facts.{no-row, used-row, named-cases, target-named, target-lower, by-height}
+use Rattle.rows.proofs.Heights.{height-longest}
 use Rattle.rows.proofs.Walk.{walk-none, walk-empty, walk-step, none-accepted, accepts-empty, accepts-step}
 
 -- words with a letter before them
@@ -201,23 +202,9 @@ module _ (t : Table) where
 
     -- "the height: the length of the longest word accepted from here": it is no more than that
     pub height-short : (r : ℕ) → Used t r → (top : ℕ) → Each (λ w. length w ≤ top) (words t r) → height t r ≤ top
-    height-short = by-height t tidy (λ r. (top : ℕ) → Each (λ w. length w ≤ top) (words t r) → height t r ≤ top) step
-      where
-        step : (r : ℕ) → Used t r
-            → ((x : ℕ) → Arc t r x → (top : ℕ) → Each (λ w. length w ≤ top) (words t (target t r x)) → height t (target t r x) ≤ top)
-            → (top : ℕ) → Each (λ w. length w ≤ top) (words t r) → height t r ≤ top
-        step r u below top short = tidy .tight r top u lower
-          where
-            shorter : (x : ℕ) → Arc t r x → (w : Word) → member w (words t (target t r x)) ≡ true → length w < top
-            shorter x a w m = member-each _ (words t r) short (x ∷ w) (rw (words-target r x u (a .letter), member-after) at m)
-
-            lower : (x : ℕ) → Arc t r x → height t (target t r x) < top
-            lower x a =
-                let (w, m) = filled-member _ (has-word (target t r x) (tidy .targets r x a)) in
-                let some = shorter x a w m in
-                let short : (v : Word) → member v (words t (target t r x)) ≡ true → length v ≤ top - 1 = λ v i. omega (arith, shorter x a v i) in
-                let rest = below x a (top - 1) (members-each _ (words t (target t r x)) short) in
-                omega arith
+    height-short r u top short =
+        let most = height-longest t tidy r u in
+        omega (arith, most .long, member-each _ (words t r) short (most .word) (member-words (most .word) (most .spelled) r (λ _. u) ∙ most .accepted))
 
     -- its words tell the row from every other in use
     abbrev Told : ℕ → Type 0

@@ -1,8 +1,10 @@
 -- 01: "ask and next work on any numbers." The walk of a word through a table. Assumes nothing.
-use Prim.Native.Nat.{ℕ}
-use mathlib.Core.Bool.{Bool, cond, _&&_}
+use Prim.Native.Nat.{ℕ, _≤_}
+use mathlib.Core.Path.{_≡_}
+use mathlib.Core.Bool.{Bool, true, cond, _&&_}
 use mathlib.Core.List.{[], _∷_}
-use Rattle.letters.specs.Words.{Word}
+use lib.ListN.{length}
+use Rattle.letters.specs.Words.{Word, Spelled}
 use Rattle.rows.specs.Table.{Table, isRow, target, ends}
 
 -- where a walk ends: on a row, or on none (0), with what is left of the word
@@ -22,6 +24,14 @@ walkFrom t w n = cond (isRow t n) (walk t w n) (record { row = 0; left = w })
 -- "ask says 1 exactly when the walk ends on a row with mark 2."
 abbrev pub accepts : Table → Word → ℕ → Bool
 accepts t w n = ends t (walkFrom t w n .row)
+
+-- "Number 1 is the height: the length of the longest word accepted from here.": n is the length of the longest word accepted from the row
+pub record Longest (t : Table) (r n : ℕ) : Type 0 where
+  pub none-longer : (w : Word) → Spelled w → accepts t w r ≡ true → length w ≤ n
+  pub word : Word
+  pub spelled : Spelled word
+  pub accepted : accepts t word r ≡ true
+  pub long : length word ≡ n
 
 -- "next reports each letter whose target is a row."
 abbrev pub hasArc : Table → ℕ → ℕ → Bool

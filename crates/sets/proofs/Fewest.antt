@@ -1,5 +1,8 @@
 -- The lists need as many states as there are different sets left of them: the machine of `Machine.antt` has that many, and by `Served.antt`
--- no automaton with these languages, cyclic or not, has fewer. Assumes nothing.
+-- no automaton with these languages, cyclic or not, has fewer. And the fewest is one number: of two automata with none fewer, neither has fewer
+-- than the other. Assumes nothing.
+use Prim.Native.Nat.{ℕ}
+use native.Mathlib.Omega.{arith}
 use mathlib.Core.Path.{_≡_}
 use mathlib.Core.List.{List}
 use lib.ListN.{length}
@@ -24,3 +27,7 @@ need-fewest ls plain =
           };
       counted = counted;
     }
+
+pub fewest-one : {ls : List Words} {m n : ℕ} → Fewest ls m → Fewest ls n → m ≡ n
+fewest-one f g =
+    omega (arith, f .minimal .none-fewer (g .some) (g .minimal .has), g .minimal .none-fewer (f .some) (f .minimal .has), f .counted, g .counted)
