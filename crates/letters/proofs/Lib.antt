@@ -1,9 +1,9 @@
--- What the crates above go by: the laws of letters, and nothing else of a letter's number; those of words, their order, sets of letters, and
--- the lines of a list. Then what only the proofs here share. Assumes nothing.
+-- What the crates above go by: the laws of letters, and nothing else of a letter's number; those of words, their order, sets of letters, the
+-- lines of a list, and tests. Then what only the proofs here share. Assumes nothing.
 pub mod Laws
 pub mod Words
 pub mod Order
 pub mod LetterSet
 pub mod Lines
+pub mod Tests
 mod Compare
-mod Tests
