@@ -1,12 +1,11 @@
--- Replacing one of the sixteen lists: that one is the new one, every other stays, by itself nothing changes, and two different ones may be
--- replaced in either order.
+-- Replacing one of the sixteen lists: that one is the new one, every other stays, and by itself nothing changes.
 -- The lists stand in a list by mission, so each is the library's law of `set`. Assumes nothing.
 use Prim.Native.Nat.{ℕ, _<_}
 use mathlib.Core.Path.{_≡_}
 use mathlib.Core.Logic.{_≢_}
 use mathlib.Core.List.{List}
 use lib.ListN.{length}
-use lib.Seq.{getD-set-same, getD-set-other, set-getD, set-comm}
+use lib.Seq.{getD-set-same, getD-set-other, set-getD}
 use Rattle.sets.specs.Sets.{Words}
 use Rattle.model.specs.Lists.{listOf, replace}
 
@@ -18,6 +17,3 @@ replace-other ls m n l h = getD-set-other ls m n l _ h
 
 pub replace-itself : (ls : List Words) (m : ℕ) → replace ls m (listOf ls m) ≡ ls
 replace-itself ls m = set-getD ls m _
-
-pub replace-commute : (ls : List Words) (m n : ℕ) (k l : Words) → m ≢ n → replace (replace ls m k) n l ≡ replace (replace ls n l) m k
-replace-commute ls m n k l h = set-comm ls m n k l h

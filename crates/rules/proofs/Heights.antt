@@ -8,8 +8,8 @@ use native.Mathlib.Omega.{arith}
 use borrow.Author.Tests.{ltb-true, ltb-false, eqb-true, lt-ltb, le-ltb, ne-eqb}
 use Rattle.letters.specs.Letters.{letters}
 use Rattle.letters.specs.Names.{longest}
+use Rattle.letters.proofs.Below.{all-below}
 use Rattle.sets.specs.Below.{someBelow, greatest}
-use Rattle.sets.proofs.Below.{all-below}
 use Rattle.rows.specs.Table.{Table, height, target, inUse}
 use Rattle.rows.specs.Rules.{ifUsed, targetsOk, above, heightOk, number39Ok, arcsOk, hasTarget, rule3}
 use Rattle.rows.proofs.Facts.{in-use-used}
