@@ -19,8 +19,8 @@ use Rattle.letters.specs.Lists.{nameAt, nameEnd, linesOf, isList}
 use Rattle.letters.proofs.Laws.{letter-lineEnd}
 use Rattle.letters.proofs.Words.{name-parts}
 use Rattle.letters.proofs.Lines.{name-part, nameEnd-le, end-here, end-later, end-within, lines-at, names-each, list-parts, ended-more, ended-none, names-at, rises-rest}
+use Rattle.letters.proofs.Below.{all-below, below-all}
 use Rattle.sets.specs.Sets.{Plain}
-use Rattle.sets.proofs.Below.{all-below, below-all}
 use Rattle.sets.proofs.Sets.{rises-rising}
 use Rattle.building.specs.Groups.{namesFrom, Listed, Begins, opening, shares}
 

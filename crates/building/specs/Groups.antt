@@ -10,7 +10,7 @@ use Rattle.letters.specs.Letters.{letter, lineEnd}
 use Rattle.letters.specs.Words.{Word, wordOf}
 use Rattle.letters.specs.Names.{isName}
 use Rattle.letters.specs.Lists.{nameAt, linesOf, ended, rises, namesOf}
-use Rattle.sets.specs.Below.{allBelow}
+use Rattle.letters.specs.Below.{allBelow}
 use Rattle.sets.specs.Sets.{Words}
 use Rattle.sets.specs.Residuals.{residual}
 

@@ -16,7 +16,7 @@ use Rattle.chains.specs.Orders.{level, levels, Ordered}
 pub used-level : {t : Table} {r : ℕ} → Used t r → level t r ≡ suc (height t r)
 used-level u = rw (used-in-use u)
 
-pub level-used : (t : Table) (r h : ℕ) → level t r ≡ suc h → Used t r × (height t r ≡ h)
+level-used : (t : Table) (r h : ℕ) → level t r ≡ suc h → Used t r × (height t r ≡ h)
 level-used t r h e = go (inUse t r) refl
   where
     go : (b : Bool) → inUse t r ≡ b → Used t r × (height t r ≡ h)

@@ -29,11 +29,11 @@ pub record Script : Type 0 where
   pub steps : List Step
 
 -- an empty book
-abbrev pub fresh : ℕ → Book
+abbrev fresh : ℕ → Book
 fresh room = record { lengthOk = true; sound = true; room = room; lists = emptyLists }
 
 -- the book after a call
-abbrev pub bookAfter : Book → Outcome → Book
+abbrev bookAfter : Book → Outcome → Book
 bookAfter b o = record { lengthOk = true; sound = true; room = b .room; lists = o .lists }
 
 -- does every step come out as it must?

@@ -8,16 +8,16 @@ use Rattle.examples.specs.Script.{Script}
 use Rattle.examples.specs.Script.Step.{gives, pair, writes, holds}
 
 -- where 01 names no room, the greatest
-abbrev pub anyRoom : ℕ
+abbrev anyRoom : ℕ
 anyRoom = 1000
 
 -- "P1 Empty book: used 0; ask A for mission 0: 0."
-abbrev pub p1 : Script
+abbrev p1 : Script
 p1 = record { room = anyRoom; steps = gives used 0 0 ∷ gives (ask 0 (bytes "A")) 0 0 ∷ [] }
 
 -- "P2 SLEW to mission 0: used 5. P3 Then SLEW to mission 1: still 5."
 -- "P4 Then SLEWA to mission 0: used 10; mission 1 has no SLEWA. P5 Remove it: used 5."
-abbrev pub p2-to-p5 : Script
+abbrev p2-to-p5 : Script
 p2-to-p5 =
     record {
       room = anyRoom;
@@ -35,7 +35,7 @@ p2-to-p5 =
     }
 
 -- "P6 RATE and GATE on one list, nothing else: used 5."
-abbrev pub p6 : Script
+abbrev p6 : Script
 p6 =
     record {
       room = anyRoom;
@@ -43,7 +43,7 @@ p6 =
     }
 
 -- "P7 00, 01, 10, 11 loaded as one list: used 3. Remove 11: used 4."
-abbrev pub p7 : Script
+abbrev p7 : Script
 p7 =
     record {
       room = anyRoom;
@@ -56,7 +56,7 @@ p7 =
     }
 
 -- "In room 3 that remove is refused, 11."
-abbrev pub p7-in-room-3 : Script
+abbrev p7-in-room-3 : Script
 p7-in-room-3 =
     record {
       room = 3;
@@ -64,7 +64,7 @@ p7-in-room-3 =
     }
 
 -- "P8 Room 5, SLEW in mission 0: EW to mission 1 is done, used 5; RATE to mission 1 would need 9, refused 11."
-abbrev pub p8 : Script
+abbrev p8 : Script
 p8 =
     record {
       room = 5;
@@ -77,7 +77,7 @@ p8 =
     }
 
 -- "would need 9": where there is room, they are used
-abbrev pub p8-with-room : Script
+abbrev p8-with-room : Script
 p8-with-room =
     record {
       room = anyRoom;
@@ -90,7 +90,7 @@ p8-with-room =
     }
 
 -- "Clear mission 0 first (mission 1 empty): RATE is done."
-abbrev pub p8-cleared : Script
+abbrev p8-cleared : Script
 p8-cleared =
     record {
       room = 5;
@@ -102,7 +102,7 @@ p8-cleared =
     }
 
 -- "P9 Room 6, SLEW in mission 0: SLEWS is done, used 6, though old and new rows side by side are 10."
-abbrev pub p9 : Script
+abbrev p9 : Script
 p9 =
     record {
       room = 6;
@@ -110,7 +110,7 @@ p9 =
     }
 
 -- "P10 Mission 0 has 00, 01; mission 1 has 01, 10: used 6. Into mission 2: both together 00, 01, 10; common 01; difference 00. Each gives used 7."
-abbrev pub p10 : Script
+abbrev p10 : Script
 p10 =
     record {
       room = anyRoom;
@@ -133,7 +133,7 @@ p10 =
     }
 
 -- "P11 List 00, 01, 10: rank of 01 is 1, of 1 is 2, of _ is 3; nth 2 is 10; nth 3 refused 10."
-abbrev pub p11 : Script
+abbrev p11 : Script
 p11 =
     record {
       room = anyRoom;
@@ -148,7 +148,7 @@ p11 =
     }
 
 -- "P12 List SLEW, SLEWA: next after SLEW is 1,024 and 1."
-abbrev pub p12 : Script
+abbrev p12 : Script
 p12 =
     record {
       room = anyRoom;

@@ -1,17 +1,18 @@
 -- Growing step by step: what is made on the way to some words is needed for them, if it is left of them after some letters. Assumes nothing.
-use Prim.Native.Nat.{ℕ, _+_, _<_}
+use Prim.Native.Nat.{ℕ, suc, _+_, _≤_, _<_}
 use native.Mathlib.Omega.{arith}
 use mathlib.Core.List.{List, List·Memᴰ}
 use Rattle.letters.specs.Letters.{letters}
+use Rattle.letters.proofs.LetterSet.{count-most}
 use Rattle.sets.specs.Sets.{Words, Filled}
 use Rattle.sets.specs.Residuals.{after, states}
 use Rattle.sets.proofs.States.{after-filled, after-in-states}
-use Rattle.rows.specs.Table.{Table}
+use Rattle.rows.specs.Table.{Table, rowCount, inUse, usedRows}
 use Rattle.rows.specs.Tidy.{Tidy}
 use Rattle.rows.proofs.Growth.{grown-self, grown-on}
 use Rattle.growing.specs.declared.makes.Made.{Made}
 use Rattle.growing.specs.declared.makes.Made.the-variants.{Row, Full}
-use Rattle.growing.specs.Growing.{Grows, MadeRow, MadeFull, Makes}
+use Rattle.growing.specs.Growing.{Grows, MadeFull, Makes}
 
 -- where the words l are needed, so are the words k
 abbrev pub Within : Words → Words → Type 0
@@ -37,28 +38,28 @@ grows-on {t} {u} {v} first second within =
       useful = λ ls needed us. second .useful ls needed (first .useful ls (within ls needed) us);
     }
 
--- a row is made for k, and then one for l
-pub makes-on : {a : ℕ} {t u : Table} {k : Words} {r : ℕ} → MadeRow a t u k r → (b : ℕ) (v : Table) (l : Words) → Within k l
-    → (made : Made) → Makes b u v l made → Makes (a + b) t v l made
-makes-on first b v l within (Row s) second =
+few-rows : (t : Table) → usedRows t ≤ rowCount t
+few-rows t = count-most (rowCount t) (λ r. inUse t r)
+
+-- t has grown for k, and then a row is made for l: there are never more rows in use than rows
+pub makes-on : {t u : Table} {k : Words} → Grows t u k → (v : Table) (l : Words) → Within k l → (b c : ℕ)
+    → ((n : ℕ) → n ≤ rowCount t → n ≤ usedRows u + b → n ≤ usedRows t + c) → (made : Made) → Makes b u v l made → Makes c t v l made
+makes-on first v l within b c few (Row s) second =
+    let grows = grows-on first (second .grows) within in
     record {
-      grows = grows-on (first .grows) (second .grows) within;
+      grows = grows;
       named = second .named;
       has = second .has;
-      few = omega (arith, first .few, second .few);
+      few = few (usedRows v) (omega (arith, few-rows v, grows .grown .long)) (second .few);
     }
-makes-on first b v l within Full second =
+makes-on first v l within b c few Full second =
+    let grows = grows-on first (second .grows) within in
     record {
-      grows = grows-on (first .grows) (second .grows) within;
+      grows = grows;
       full = second .full;
-      few = omega (arith, first .few, second .few);
+      few = few (suc (usedRows v)) (omega (arith, second .full, grows .grown .long)) (second .few);
     }
 
 -- no row is free for k, and so none for l
-pub full-on : {a : ℕ} {t u : Table} {k : Words} → MadeFull a t u k → (b : ℕ) (l : Words) → Within k l → Makes (a + b) t u l Full
-full-on first b l within =
-    record {
-      grows = grows-within (first .grows) within;
-      full = first .full;
-      few = omega (arith, first .few);
-    }
+pub full-within : {most : ℕ} {t u : Table} {k l : Words} → MadeFull most t u k → Within k l → MadeFull most t u l
+full-within full within = record { grows = grows-within (full .grows) within; full = full .full; few = full .few }

@@ -16,9 +16,10 @@ use Rattle.letters.specs.Names.{longest}
 use Rattle.letters.specs.Words.{Word, Spelled}
 use Rattle.letters.specs.LetterSet.{countOf}
 use Rattle.letters.proofs.LetterSet.{count-but-one, count-positive}
+use Rattle.letters.proofs.Below.{all-below, below-all}
 use Rattle.sets.specs.Sets.{Words, Filled, member}
 use Rattle.sets.specs.Residuals.{states}
-use Rattle.sets.proofs.Below.{tests-agree, all-below, below-all, below-greatest, greatest-least}
+use Rattle.sets.proofs.Below.{tests-agree, below-greatest, greatest-least}
 use Rattle.sets.proofs.Sets.{members-each, member-each, plain-ext}
 use Rattle.sets.proofs.Residuals.{member-after}
 use Rattle.model.specs.Lists.{missions}

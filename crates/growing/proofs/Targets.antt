@@ -14,34 +14,21 @@ use Rattle.letters.specs.Each.{Each}
 use Rattle.letters.specs.Letters.{letters}
 use Rattle.letters.specs.Names.{longest}
 use Rattle.letters.specs.Words.{Word, Spelled}
-use Rattle.letters.proofs.LetterSet.{count-most}
 use Rattle.sets.specs.Sets.{Words, Plain, member}
 use Rattle.sets.specs.Residuals.{after}
 use Rattle.sets.proofs.Sets.{member-each, members-each, plain-ext}
 use Rattle.sets.proofs.Residuals.{member-after}
-use Rattle.rows.specs.Table.{Table, rowCount, inUse, usedRows}
+use Rattle.rows.specs.Table.{Table, rowCount}
 use Rattle.rows.specs.Words.{words}
 use Rattle.rows.specs.Tidy.{Tidy}
 use Rattle.rows.proofs.Facts.{no-row}
 use Rattle.rows.proofs.Words.{fan-empty, fan-word, fan-plain, words-plain, words-none}
 use Rattle.rows.proofs.Growth.{named-kept, words-kept}
 use Rattle.growing.specs.declared.makes.Made.{Made}
-use Rattle.growing.specs.declared.makes.Made.the-variants.{Row, Full}
+use Rattle.growing.specs.declared.makes.Made.the-variants.{Full}
 use Rattle.growing.specs.Rows.{endMark, wordsOver}
-use Rattle.growing.specs.Growing.{Fitting, Grows, MadeRow, MadeFull, Makes, TargetsMade}
-use Rattle.growing.proofs.Growing.{Within, grows-self, grows-within, grows-on}
-
-few-rows : (t : Table) → usedRows t ≤ rowCount t
-few-rows t = count-most (rowCount t) (λ r. inUse t r)
-
--- made on the way to l, with no count of the rows
-made-on : (t u v : Table) (l : Words) (b : ℕ) (made : Made) → Grows t u l → Makes b u v l made → Makes (rowCount t) t v l made
-made-on t u v l b (Row r) first second =
-    let grows = grows-on first (second .grows) (λ ls needed. needed) in
-    record { grows = grows; named = second .named; has = second .has; few = omega (arith, few-rows v, grows .grown .long) }
-made-on t u v l b Full first second =
-    let grows = grows-on first (second .grows) (λ ls needed. needed) in
-    record { grows = grows; full = second .full; few = omega (arith, second .full, grows .grown .long) }
+use Rattle.growing.specs.Growing.{Fitting, MadeRow, MadeFull, Makes, TargetsMade}
+use Rattle.growing.proofs.Growing.{Within, grows-self, grows-within, grows-on, makes-on, full-within}
 
 pub end-marked : (k : ℕ) (ends : Bool) → k ≡ endMark ends → (0 < k) × (k ≤ 2)
 end-marked k true e = (omega arith, omega arith)
@@ -66,6 +53,10 @@ targets-none t tidy l =
     none x h = getD-replicate letters x 0 0 h
 
 module _ {t u : Table} {l : Words} {given : ℕ → Words} {ts : List ℕ} (so-far : TargetsMade t u l given ts) where
+  -- a row for l after that, with no count of the rows
+  made-on : (v : Table) (most : ℕ) (made : Made) → Makes most u v l made → Makes (rowCount t) t v l made
+  made-on v most = makes-on (so-far .grows) v l (λ ls needed. needed) most (rowCount t) (λ n h _. omega arith)
+
   -- one more target
   pub targets-more : (v : Table) (most x n : ℕ) (more : ℕ → Words) → x < letters → MadeRow most u v (more x) n → Within (more x) l
       → ((y : ℕ) → y < letters → (y ≡ x → ⊥) → more y ≡ given y) → TargetsMade t v l more (set ts x n)
@@ -90,8 +81,7 @@ module _ {t u : Table} {l : Words} {given : ℕ → Words} {ts : List ℕ} (so-f
 
   -- no row is free for a target
   pub targets-full : (v : Table) (most : ℕ) (k : Words) → MadeFull most u v k → Within k l → Makes (rowCount t) t v l Full
-  targets-full v most k full within =
-      made-on t u v l most Full (so-far .grows) (record { grows = grows-within (full .grows) within; full = full .full; few = full .few })
+  targets-full v most k full within = made-on v most Full (full-within full within)
 
   -- every target is there: the row has the words l
   module _ (plain : Plain l) (short : Each (λ w. length w ≤ longest) l) (all : (x : ℕ) → x < letters → given x ≡ after x l) where
@@ -118,4 +108,4 @@ module _ {t u : Table} {l : Words} {given : ℕ → Words} {ts : List ℕ} (so-f
         same (x ∷ w) s = rw (fan-word, lt-ltb x letters (s .0), target-words x (s .0)) (member-after x w l)
 
     pub targets-made : (v : Table) (made : Made) → Makes 1 u v (wordsOver u (endMark (member [] l)) ts) made → Makes (rowCount t) t v l made
-    targets-made v made m = made-on t u v l 1 made (so-far .grows) (rw over-words at m)
+    targets-made v made m = made-on v 1 made (rw over-words at m)

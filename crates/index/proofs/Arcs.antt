@@ -75,7 +75,7 @@ module _ (t : Table) (r : ℕ) where
       same x true e some = eqb-true (target t r x) s e
       same x false e some = absurd (omega arith)
 
-  pub of-most : (s : ℕ) → arcsOf t r s ≤ letters
+  of-most : (s : ℕ) → arcsOf t r s ≤ letters
   of-most s = go (inUse t r)
     where
       go : (b : Bool) → cond b (arcsFrom t r letters s) 0 ≤ letters

@@ -11,7 +11,8 @@ use borrow.Author.Tests.{eqb-true, eqb-false, ne-eqb, not-true}
 use lib.Dec.{eqb}
 use lib.ListN.{getD, length-take, length-drop}
 use Rattle.letters.specs.Letters.{letters}
-use Rattle.sets.proofs.Below.{tests-agree, all-below, below-all, some-below, below-some}
+use Rattle.letters.proofs.Below.{all-below, below-all}
+use Rattle.sets.proofs.Below.{tests-agree, some-below, below-some}
 use Rattle.rows.specs.Table.{Table, rowCount, mark, target, rowTargets, inUse}
 use Rattle.rows.specs.Rules.{agree, hasTwin}
 use Rattle.rows.specs.Tidy.{Used}

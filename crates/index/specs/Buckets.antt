@@ -11,7 +11,7 @@ use Rattle.rows.specs.Table.{Table, mark, target}
 abbrev pub radix : ℕ
 radix = 4294967296
 
-abbrev pub markFactor : ℕ
+abbrev markFactor : ℕ
 markFactor = 2654435761
 
 abbrev pub root : ℕ → ℕ

@@ -8,7 +8,7 @@ use mathlib.Core.List.{List}
 use lib.Dec.{eqb}
 use lib.ListN.{length, getD, set}
 use Rattle.letters.specs.Letters.{letters}
-use Rattle.sets.specs.Below.{allBelow}
+use Rattle.letters.specs.Below.{allBelow}
 use Rattle.rows.specs.Table.{Table, rowCount, mostRows, mark, target, inUse}
 use Rattle.rows.specs.Tidy.{Used}
 use Rattle.chains.specs.Chains.{Chained}

@@ -1,5 +1,7 @@
--- What the crates above go by: the laws of letters, and nothing else of a letter's number; those of words, their order, sets of letters, and
--- the lines of a list; and that a name comes back in its own bytes. Then what only the proofs here share. Assumes nothing.
+-- What the crates above go by: the laws of letters, and nothing else of a letter's number; those of words, their order, sets of letters, the
+-- lines of a list, and tests; and that a name comes back in its own bytes. Then what only the proofs here share. Assumes nothing.
+pub mod Tests
+pub mod Below
 pub mod Laws
 pub mod Words
 pub mod Order
@@ -7,4 +9,3 @@ pub mod LetterSet
 pub mod Lines
 pub mod NameBytes
 mod Compare
-mod Tests

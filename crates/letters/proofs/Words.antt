@@ -1,7 +1,7 @@
 -- Words and their bytes: there and back, and what is known of a name and of a prefix. All follows from the laws of letters.
 -- Assumes nothing.
 use Prim.Native.Nat.{ℕ, suc, _-_, _≤_, _<_}
-use mathlib.Core.Path.{_≡_, refl, ap₂}
+use mathlib.Core.Path.{_≡_, refl}
 use mathlib.Core.Bool.{true, and-eq-true-iff}
 use mathlib.Core.List.{List, [], _∷_}
 use native.Mathlib.Nat.{not-suc-le-zero}
@@ -13,10 +13,6 @@ use Rattle.letters.specs.Letters.{letters, letter}
 use Rattle.letters.specs.Words.{Word, wordOf, bytesOf, rest, Spelled}
 use Rattle.letters.specs.Names.{longest, spelled, isPrefix, isName}
 use Rattle.letters.proofs.Laws.{letter-byteOf}
-
-pub wordOf-bytesOf : (w : Word) → Spelled w → wordOf (bytesOf w) ≡ w
-wordOf-bytesOf [] s = refl
-wordOf-bytesOf (x ∷ w) s = ap₂ _∷_ (letter-byteOf x (s .0)) (wordOf-bytesOf w (s .1))
 
 all-left : (b : ℕ) (bytes : List ℕ) → rest (b ∷ bytes) ≡ bytes
 all-left b bytes = take-all (length (b ∷ bytes) - 1) bytes (omega arith)
@@ -34,13 +30,13 @@ pub spelled-rest : (bytes : List ℕ) → 0 < length bytes → Spelled (wordOf b
     → (letter (getD bytes 0 0) < letters) × Spelled (wordOf (rest bytes))
 spelled-rest bytes some s = rw (word-rest bytes some) at s
 
-pub spelled-word : (bytes : List ℕ) → spelled bytes ≡ true → Spelled (wordOf bytes)
+spelled-word : (bytes : List ℕ) → spelled bytes ≡ true → Spelled (wordOf bytes)
 spelled-word [] e = tt
 spelled-word (b ∷ bytes) e =
     let parts = and-eq-true-iff _ _ .0 e in
     (ltb-true _ _ (parts .0), spelled-word bytes (parts .1))
 
-pub spelled-bytes : (w : Word) → Spelled w → spelled (bytesOf w) ≡ true
+spelled-bytes : (w : Word) → Spelled w → spelled (bytesOf w) ≡ true
 spelled-bytes [] s = refl
 spelled-bytes (x ∷ w) s = simp (letter-byteOf x (s .0), lt-ltb x letters (s .0), spelled-bytes w (s .1))
 

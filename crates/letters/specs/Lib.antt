@@ -1,6 +1,7 @@
 -- 01, "Letters and names": letters, words and their order, names, lists for load, and sets of letters as 64-bit numbers.
 -- Assumes nothing.
 pub mod Each
+pub mod Below
 pub mod Letters
 pub mod Words
 pub mod Orders

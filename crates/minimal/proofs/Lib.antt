@@ -2,6 +2,7 @@
 pub mod Counting
 pub mod Places
 pub mod Book
+pub mod Carried
 pub mod Renumbering
 pub mod Matching
 pub mod Theorems

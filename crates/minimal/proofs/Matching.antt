@@ -5,7 +5,7 @@
 -- upwards. Free rows are forty zeros. Assumes nothing.
 use Prim.Native.Nat.{ℕ, _≤_, _<_}
 use native.Mathlib.Omega.{arith}
-use native.Mathlib.Decide.{ℕ-discrete, decLt}
+use native.Mathlib.Decide.{ℕ-discrete}
 use mathlib.Core.Path.{_≡_, refl, sym, _∙_, ap}
 use mathlib.Core.Bool.{Bool, true, false, not, false≢true}
 use mathlib.Core.Logic.{_⊎_, inl, inr}
@@ -13,6 +13,7 @@ use lib.ListN.{length}
 use borrow.Author.Tests.{ltb-false, not-true}
 use Rattle.letters.specs.LetterSet.{countOf}
 use Rattle.letters.specs.Letters.{letters}
+use Rattle.letters.proofs.Tests.{by-test}
 use Rattle.sets.specs.Residuals.{after, need}
 use Rattle.rows.specs.Table.{Table, rowCount, isRow, start, mark, height, target, number39, inUse}
 use Rattle.rows.specs.Tidy.{Used, Named, Arc, Tidy, Sound}
@@ -143,6 +144,7 @@ module _ (t u : Table) (tidy : Tidy t) (neat : Tidy u) (r s : ℕ) (row : isRow 
 -- a row of u for each of t
 record Across (t u : Table) : Type 0 where
   to : ℕ → ℕ
+  others : (n : ℕ) → isRow t n ≡ false → to n ≡ n
   forth : (r : ℕ) → isRow t r ≡ true → Matched t u r (to r)
   only : (r s : ℕ) → Matched t u r s → s ≡ to r
 
@@ -163,18 +165,25 @@ module _ (t u : Table) (sound : Sound t) (other : Sound u) (long : length u ≡ 
             (s, free p (record { inside = below; idle = not-true (inUse u s) q }) (sym e))
       ]
 
-  -- any number will do past the end
-  found : (r : ℕ) → (s : ℕ) × (r < rowCount t → Matched t u r s)
+  -- 0 belongs to 0, and past the end nothing is asked: so what is no row can stay as it is
+  found : (r : ℕ) → (s : ℕ) × (r < rowCount t → Matched t u r s) × (isRow t r ≡ false → s ≡ r)
   found r =
-      elim (decLt r (rowCount t)) [
-        | yes h ↦ let (s, m) = partner r h in (s, λ _. m)
-        | no h ↦ (0, λ g. absurd (h g))
-      ]
+      by-test (isRow t r)
+      (λ row. let (s, m) = partner r (row-inside t r row .1) in (s, (λ _. m), λ out. absurd (false≢true (sym out ∙ row))))
+      (λ out. (r, only-none out, λ _. refl))
+    where
+      only-none : isRow t r ≡ false → r < rowCount t → Matched t u r r
+      only-none out h =
+          elim (ℕ-discrete r 0) [
+            | yes e ↦ rw e (none-matched t u (sound .tidy) (other .tidy))
+            | no e ↦ absurd (false≢true (sym out ∙ inside-row t r (omega arith) h))
+          ]
 
   across : Across t u
   across =
       record {
         to = λ r. found r .0;
+        others = λ n. found n .2;
         forth = λ r row. found r .1 (row-inside t r row .1);
         only = λ r s m. matched-one (other .tidy) (back m) (back (found r .1 (matched-inside m)));
       }
@@ -193,7 +202,7 @@ matched-renumbered t u sound other long same =
       from-row = λ r row. matched-row u t neat tidy r _ (home .forth r row) row;
       from-to = λ r row. sym (home .only _ r (back (there .forth r row)));
       to-from = λ r row. sym (there .only _ r (back (home .forth r row)));
-      none = sym (there .only 0 0 (none-matched t u tidy neat));
+      others = there .others;
       starts = λ m h.
           there .only (start t m) (start u m)
           (named-matched t u tidy neat _ _ (λ p. tidy .starts m h p .0) (λ p. neat .starts m h p .0)

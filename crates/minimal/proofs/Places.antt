@@ -81,7 +81,7 @@ module _ (t : Table) (tidy : Tidy t) (roots : List ℕ) (named : Each (Named t) 
       let (r, i, e) = map-in _ roots (getD-in [] given m h) in
       rw e (root-kept r i (rw e at f)))
 
-  pub reached-one-to-one : OneToOne (map (λ n. words t n) roots) t (λ r. reachedFrom t roots r ≡ true)
+  reached-one-to-one : OneToOne (map (λ n. words t n) roots) t (λ r. reachedFrom t roots r ≡ true)
   unfolding need
   reached-one-to-one =
       record {

@@ -1,33 +1,25 @@
--- A renumbering of a sound book is a sound book with the same lists. Every state row of u is the row `to r` of a state row r of t, and its
--- forty numbers are those of r with the targets carried along; so each rule is carried over row by row, and a walk goes the same way, so the
--- words are the same. So the words of each row of u are left of t's lists, and u has no more rows in use than these need. Assumes nothing.
+-- A renumbering of a sound book is a sound book. Every state row of u is the row `to r` of a state row r of t, and its forty numbers are those
+-- of r with the targets carried along; so each rule but the last is carried over row by row. The words of each row of u are those of a row of
+-- t, so they are left of t's lists, and u has no more rows in use than these need. Assumes nothing.
 use Prim.Native.Nat.{ℕ, _+_, _*_, _≤_, _<_}
 use native.Mathlib.Omega.{arith}
 use native.Mathlib.Decide.{ℕ-discrete}
 use mathlib.Core.Path.{_≡_, sym, _∙_, ap}
-use mathlib.Core.Bool.{true, cond}
+use mathlib.Core.Bool.{true}
 use mathlib.Core.Logic.{inl, inr}
-use mathlib.Core.List.{[], _∷_}
-use lib.ListN.{getD, length}
-use lib.Seq.{ext-getD}
+use lib.ListN.{getD}
 use Rattle.letters.specs.Letters.{letters}
-use Rattle.letters.specs.Words.{Word, Spelled}
 use Rattle.letters.specs.Names.{longest}
 use Rattle.sets.specs.Residuals.{states}
 use Rattle.sets.proofs.Membership.{In}
-use Rattle.sets.proofs.Sets.{plain-ext}
-use Rattle.model.specs.Lists.{missions}
 use Rattle.rows.specs.Table.{Table, width, isRow, start, mark, height, target, number39, room, usedRows}
-use Rattle.rows.specs.Walk.{accepts}
 use Rattle.rows.specs.Words.{words, lists}
-use Rattle.rows.specs.Tidy.{Used, Named, Arc, Tidy, Pointed, Sound}
+use Rattle.rows.specs.Tidy.{Used, Arc, Tidy, Pointed, Sound}
 use Rattle.rows.specs.Growth.{Useful}
-use Rattle.rows.proofs.Facts.{row-inside, inside-row, no-row, used-row, named-cases, target-named}
+use Rattle.rows.proofs.Facts.{row-inside, inside-row, used-row}
 use Rattle.rows.proofs.Cells.{forty, free-height, free-target, free-number39}
-use Rattle.rows.proofs.Walk.{none-accepted, accepts-empty, accepts-step}
-use Rattle.rows.proofs.Words.{words-plain, member-words}
-use Rattle.rows.proofs.Books.{lists-sixteen, list-names}
 use Rattle.minimal.specs.Renumbered.{Renumbered}
+use Rattle.minimal.proofs.Carried.{to-none, each-row, to-one, to-words}
 use Rattle.minimal.proofs.Places.{used-in-states, used-rows-need, useful-rows}
 
 module _ (t u : Table) (by : Renumbered t u) where
@@ -35,11 +27,7 @@ module _ (t u : Table) (by : Renumbered t u) where
   to n = by .to n
 
   to-some : (n : ℕ) → 0 < to n → 0 < n
-  to-some n h = elim (ℕ-discrete n 0) [ yes e ↦ absurd (omega (arith, ap (by .to) e ∙ by .none)) | no e ↦ omega arith ]
-
-  -- every row of u is `to` of one of t
-  each-row : (P : ℕ → Type 0) → ((r : ℕ) → isRow t r ≡ true → P (to r)) → (s : ℕ) → isRow u s ≡ true → P s
-  each-row P f s e = rw (by .to-from s e) at (f (by .from s) (by .from-row s e))
+  to-some n h = elim (ℕ-discrete n 0) [ yes e ↦ absurd (omega (arith, ap (by .to) e ∙ to-none t u by)) | no e ↦ omega arith ]
 
   to-used : {r : ℕ} → Used t r → Used u (to r)
   to-used {r} p =
@@ -48,7 +36,7 @@ module _ (t u : Table) (by : Renumbered t u) where
       record { positive = positive; inside = inside; marked = rw (by .marks r row) (p .marked) }
 
   each-used : (P : ℕ → Type 0) → ((r : ℕ) → Used t r → P (to r)) → (s : ℕ) → Used u s → P s
-  each-used P f s p = each-row (λ s. Used u s → P s) back s (used-row p) p
+  each-used P f s p = each-row t u by (λ s. Used u s → P s) back s (used-row p) p
     where
       back : (r : ℕ) → isRow t r ≡ true → Used u (to r) → P (to r)
       back r row q =
@@ -56,20 +44,6 @@ module _ (t u : Table) (by : Renumbered t u) where
           f r (record { positive = positive; inside = inside; marked = rw (by .marks r row) at (q .marked) })
 
   module _ (tidy : Tidy t) where
-    -- a number that names a row in use or none is found again
-    to-one : (m n : ℕ) → Named t m → Named t n → to m ≡ to n → m ≡ n
-    to-one m n p q e = sym (found m p) ∙ (ap back e ∙ found n q)
-      where
-        back : ℕ → ℕ
-        back n = cond (isRow u n) (by .from n) 0
-
-        found : (n : ℕ) → Named t n → back (to n) ≡ n
-        found n p =
-            elim (named-cases p) [
-              | inl v ↦ let row = used-row v in rw (by .to-row n row) (by .from-to n row)
-              | inr e ↦ rw (e, by .none)
-            ]
-
     to-target : {r x : ℕ} → Used t r → x < letters → target u (to r) x ≡ to (target t r x)
     to-target {r} {x} p h = by .targets r x (used-row p) h
 
@@ -95,7 +69,7 @@ module _ (t u : Table) (by : Renumbered t u) where
     to-zeros r row e =
         let free : mark t r ≡ 0 = sym (by .marks r row) ∙ e in
         forty u (to r) (λ n. n ≡ 0) e (by .heights r row ∙ free-height t tidy r row free)
-        (λ x h. by .targets r x row h ∙ (ap (by .to) (free-target t tidy r row free x h) ∙ by .none))
+        (λ x h. by .targets r x row h ∙ (ap (by .to) (free-target t tidy r row free x h) ∙ to-none t u by))
         (by .numbers39 r row ∙ free-number39 t tidy r row free)
 
     -- rows of u "agree in mark and all 37 targets"
@@ -105,9 +79,7 @@ module _ (t u : Table) (by : Renumbered t u) where
     to-apart : (r s : ℕ) → Used t r → Used t s → Alike (to r) (to s) → r ≡ s
     to-apart r s p q a =
         tidy .apart r s p q (cc (a .0, by .marks r (used-row p), by .marks s (used-row q)))
-        (λ x h.
-        to-one (target t r x) (target t s x) (target-named t tidy r x p h) (target-named t tidy s x q h)
-        (cc (a .1 x h, to-target p h, to-target q h)))
+        (λ x h. to-one t u by (target t r x) (target t s x) (cc (a .1 x h, to-target p h, to-target q h)))
 
     to-tidy : Tidy u
     to-tidy =
@@ -122,7 +94,7 @@ module _ (t u : Table) (by : Renumbered t u) where
           rest = λ i low high. by .rest i low high ∙ tidy .rest i low high;
           marks = each-used (λ s. mark u s ≤ 2) (λ r p. rw (by .marks r (used-row p)) (tidy .marks r p));
           zeros = λ s i positive inside e h.
-              each-row (λ s. mark u s ≡ 0 → getD u (s * width + i) 0 ≡ 0) (λ r row d. to-zeros r row d i h)
+              each-row t u by (λ s. mark u s ≡ 0 → getD u (s * width + i) 0 ≡ 0) (λ r row d. to-zeros r row d i h)
               s (inside-row u s positive inside) e;
           targets = each-arc (λ s x. Used u (target u s x))
               (λ r x a. rw (to-target (a .used) (a .letter)) (to-used (tidy .targets r x a)));
@@ -147,51 +119,11 @@ module _ (t u : Table) (by : Renumbered t u) where
         go (inl (m, h, e)) = inl (m, h, by .starts m h ∙ ap (by .to) e)
         go (inr (q, x, a, e)) = inr (to q, x, arc-to a, to-target (a .used) (a .letter) ∙ ap (by .to) e)
 
-    to-named : (n : ℕ) → Named t n → Named u (to n)
-    to-named n named some = to-used (named (to-some n some))
-
-    -- a walk goes the same way
-    nowhere-to : (w : Word) (n : ℕ) → n ≡ 0 → accepts u w (to n) ≡ accepts t w n
-    nowhere-to w n e = rw (none-accepted t n (no-row t n e) w) (none-accepted u (to n) (no-row u (to n) (rw e (by .none))) w)
-
-    to-accepts : (w : Word) → Spelled w → (n : ℕ) → Named t n → accepts u w (to n) ≡ accepts t w n
-    to-accepts [] g n named =
-        elim (named-cases named) [
-          | inl p ↦ let row = used-row p in rw (accepts-empty u (to n), accepts-empty t n, by .to-row n row, by .marks n row, row)
-          | inr e ↦ nowhere-to [] n e
-        ]
-    to-accepts (x ∷ w) g n named =
-        elim (named-cases named) [
-          | inl p ↦
-              let row = used-row p in
-              rw (accepts-step t n row x w, accepts-step u (to n) (by .to-row n row) x w, to-target p (g .0))
-              (to-accepts w (g .1) (target t n x) (target-named t tidy n x p (g .0)))
-          | inr e ↦ nowhere-to (x ∷ w) n e
-        ]
-
-    to-words : (n : ℕ) → Named t n → words u (to n) ≡ words t n
-    to-words n named =
-        plain-ext (words u (to n)) (words t n) (words-plain u (to n)) (words-plain t n)
-        (λ w g.
-        member-words u to-tidy w g (to n) (to-named n named)
-        ∙ (to-accepts w g n named ∙ sym (member-words t tidy w g n named)))
-
-    to-lists : lists u ≡ lists t
-    to-lists = ext-getD [] (lists u) (lists t) (lists-sixteen u ∙ sym (lists-sixteen t)) names-same
-      where
-        names-same : (m : ℕ) → m < length (lists u) → getD (lists u) m [] ≡ getD (lists t) m []
-        names-same m h =
-            let below : m < missions = omega (arith, lists-sixteen u) in
-            list-names u m below
-            ∙ (rw (by .starts m below) (to-words (start t m) (λ p. tidy .starts m below p .0)) ∙ sym (list-names t m below))
-
-pub renumbered-sound : (t u : Table) → Renumbered t u → Sound t → Sound u × (lists u ≡ lists t)
+pub renumbered-sound : (t u : Table) → Renumbered t u → Sound t → Sound u
 renumbered-sound t u by facts =
-    let tidy = facts .tidy in
+    let tidy = to-tidy t u by (facts .tidy) in
     let useful : Useful (lists t) u =
-    each-used t u by (λ s. In (words u s) (states (lists t)))
-    (λ r p. rw (to-words t u by tidy r (λ _. p)) (used-in-states t facts r p))
+    each-used t u by (λ s. In (words u s) (states (lists t))) (λ r p. rw (to-words t u by r) (used-in-states t facts r p))
     in
-    let used = useful-rows u (to-tidy t u by tidy) (lists t) useful in
-    let fits : usedRows u ≤ room u = omega (arith, used-rows-need t facts) in
-    (record { tidy = to-tidy t u by tidy; pointed = to-pointed t u by tidy (facts .pointed); fits = fits }, to-lists t u by tidy)
+    let fits : usedRows u ≤ room u = omega (arith, useful-rows u tidy (lists t) useful, used-rows-need t facts) in
+    record { tidy = tidy; pointed = to-pointed t u by (facts .tidy) (facts .pointed); fits = fits }

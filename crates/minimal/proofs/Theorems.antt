@@ -12,6 +12,7 @@ use Rattle.letters.specs.LetterSet.{countOf}
 use Rattle.sets.specs.Sets.{Words, member}
 use Rattle.sets.specs.Residuals.{need}
 use Rattle.sets.specs.Automata.{size, Theorem5, Minimal}
+use Rattle.sets.proofs.Below.{tests-agree}
 use Rattle.sets.proofs.Served.{none-fewer}
 use Rattle.model.specs.Lists.{missions, SixteenSets, listOf, mayFollow}
 use Rattle.rows.specs.Table.{Table, rowCount, start, starts, height, inUse, usedRows}
@@ -31,6 +32,7 @@ use Rattle.minimal.specs.Renumbered.{Renumbered}
 use Rattle.minimal.proofs.Places.{reached-need, used-in-states, used-one-to-one, used-rows-need, useful-rows, useful-reached}
 use Rattle.minimal.proofs.Book.{state-used, automaton-size, automaton-once, automaton-languages}
 use Rattle.minimal.proofs.Book.{automaton-acyclic, automaton-reached, automaton-useful, automaton-different}
+use Rattle.minimal.proofs.Carried.{home-renumbered, on-renumbered, to-accepts, to-follows, to-lists}
 use Rattle.minimal.proofs.Renumbering.{renumbered-sound}
 use Rattle.minimal.proofs.Matching.{matched-renumbered}
 
@@ -89,10 +91,6 @@ sound-theorem-5 t e =
       different = automaton-different t (facts .tidy);
     }
 
--- A sound book whose state rows are put into another order is a sound book with the same lists.
-pub renumbered-same : (t u : Table) → Renumbered t u → sound t ≡ true → (sound u ≡ true) × (lists u ≡ lists t)
-renumbered-same t u by e = let (facts, same) = renumbered-sound t u by (sound-facts t e) in (facts-sound u facts, same)
-
 -- A table is itself with its rows in the same order.
 pub renumbered-self : (t : Table) → Renumbered t t
 renumbered-self t =
@@ -104,7 +102,7 @@ renumbered-self t =
       from-row = λ r e. e;
       from-to = λ r e. refl;
       to-from = λ r e. refl;
-      none = refl;
+      others = λ n out. refl;
       starts = λ m h. refl;
       rest = λ i m h. refl;
       marks = λ r e. refl;
@@ -112,6 +110,32 @@ renumbered-self t =
       targets = λ r x e h. refl;
       numbers39 = λ r e. refl;
     }
+
+-- The order of the rows can be put back, and put into another one after it.
+pub renumbered-back : (t u : Table) → Renumbered t u → Renumbered u t
+renumbered-back = home-renumbered
+
+pub renumbered-on : (t u v : Table) → Renumbered t u → Renumbered u v → Renumbered t v
+renumbered-on = on-renumbered
+
+-- "no number or value may depend on it": whatever numbers a table holds, in another order of its state rows ask and next say the same, the
+-- lists are the same, and it is a sound book in both or in neither.
+pub renumbered-ask : (t u : Table) → Renumbered t u → (m : ℕ) → m < missions → (w : Word) → Spelled w
+    → accepts u w (start u m) ≡ accepts t w (start t m)
+renumbered-ask t u by m h w s = rw (by .starts m h) (to-accepts t u by w s (start t m))
+
+pub renumbered-next : (t u : Table) → Renumbered t u → (m : ℕ) → m < missions → (w : Word) → Spelled w → (x : ℕ) → x < letters
+    → follows u w (start u m) x ≡ follows t w (start t m) x
+renumbered-next t u by m h w s x g = rw (by .starts m h) (to-follows t u by w s (start t m) x g)
+
+pub renumbered-lists : (t u : Table) → Renumbered t u → lists u ≡ lists t
+renumbered-lists = to-lists
+
+pub renumbered-sound-same : (t u : Table) → Renumbered t u → sound u ≡ sound t
+renumbered-sound-same t u by = tests-agree (sound u) (sound t) (carried u t (renumbered-back t u by)) (carried t u by)
+  where
+    carried : (t u : Table) → Renumbered t u → sound t ≡ true → sound u ≡ true
+    carried t u by e = facts-sound u (renumbered-sound t u by (sound-facts t e))
 
 -- Sound books of one length with the same lists differ in nothing but the order of their state rows.
 pub same-lists-renumbered : (t u : Table) → sound t ≡ true → sound u ≡ true → length u ≡ length t → lists u ≡ lists t → Renumbered t u

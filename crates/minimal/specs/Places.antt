@@ -7,7 +7,7 @@ use Rattle.sets.specs.Residuals.{states, placeIn, need}
 use Rattle.rows.specs.Table.{Table}
 use Rattle.rows.specs.Words.{words, lists}
 
-abbrev pub placeAmong : List Words → Table → ℕ → ℕ
+abbrev placeAmong : List Words → Table → ℕ → ℕ
 placeAmong ls t r = placeIn (words t r) (states ls)
 
 abbrev pub place : Table → ℕ → ℕ

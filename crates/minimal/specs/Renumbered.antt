@@ -1,7 +1,7 @@
 -- "which state rows hold which states is free, and tables are then the same up to renumbering". Assumes nothing.
 use Prim.Native.Nat.{ℕ, _≤_, _<_}
 use mathlib.Core.Path.{_≡_}
-use mathlib.Core.Bool.{true}
+use mathlib.Core.Bool.{true, false}
 use lib.ListN.{length, getD}
 use Rattle.letters.specs.Letters.{letters}
 use Rattle.model.specs.Lists.{missions}
@@ -12,12 +12,13 @@ pub record Renumbered (t u : Table) : Type 0 where
   pub to : ℕ → ℕ
   pub from : ℕ → ℕ
   pub long : length u ≡ length t
-  -- state rows go to state rows, one to one, and 0 is no row before and after
+  -- state rows go to state rows, one to one
   pub to-row : (r : ℕ) → isRow t r ≡ true → isRow u (to r) ≡ true
   pub from-row : (r : ℕ) → isRow u r ≡ true → isRow t (from r) ≡ true
   pub from-to : (r : ℕ) → isRow t r ≡ true → from (to r) ≡ r
   pub to-from : (r : ℕ) → isRow u r ≡ true → to (from r) ≡ r
-  pub none : to 0 ≡ 0
+  -- what is no row stays as it is
+  pub others : (n : ℕ) → isRow t n ≡ false → to n ≡ n
   -- the head
   pub starts : (m : ℕ) → m < missions → start u m ≡ to (start t m)
   pub rest : (i : ℕ) → missions ≤ i → i < width → getD u i 0 ≡ getD t i 0

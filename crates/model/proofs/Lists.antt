@@ -1,5 +1,4 @@
--- Replacing one of the sixteen lists: that one is the new one, every other stays, by itself nothing changes, and two different ones may be
--- replaced in either order.
+-- Replacing one of the sixteen lists: that one is the new one, every other stays, and by itself nothing changes.
 -- The lists stand in a list by mission, so each is the library's law of `set`. What holds of each list holds of a mission's, and of each after a
 -- list was replaced by one that it holds of. Assumes nothing.
 use Prim.Native.Nat.{ℕ, zero, suc, _<_}
@@ -7,7 +6,7 @@ use mathlib.Core.Path.{_≡_}
 use mathlib.Core.Logic.{_≢_}
 use mathlib.Core.List.{List, [], _∷_}
 use lib.ListN.{length}
-use lib.Seq.{getD-set-same, getD-set-other, set-getD, set-comm}
+use lib.Seq.{getD-set-same, getD-set-other, set-getD}
 use Rattle.letters.specs.Each.{Each}
 use Rattle.sets.specs.Sets.{Words}
 use Rattle.model.specs.Lists.{listOf, replace}
@@ -20,9 +19,6 @@ replace-other ls m n l h = getD-set-other ls m n l _ h
 
 pub replace-itself : (ls : List Words) (m : ℕ) → replace ls m (listOf ls m) ≡ ls
 replace-itself ls m = set-getD ls m _
-
-pub replace-commute : (ls : List Words) (m n : ℕ) (k l : Words) → m ≢ n → replace (replace ls m k) n l ≡ replace (replace ls n l) m k
-replace-commute ls m n k l h = set-comm ls m n k l h
 
 pub list-each : (P : Words → Type 0) (ls : List Words) (m : ℕ) → Each P ls → P [] → P (listOf ls m)
 list-each P [] m each none = none

@@ -36,6 +36,7 @@ isChange (count m) = false
 isChange (rank m name) = false
 isChange (nth m n size) = false
 isChange used = false
+
 -- 11, "the sixteen lists after the change need more states than room": "add, remove, load, combine"
 abbrev pub refusedForRoom : Call → Bool
 refusedForRoom (add m name) = true

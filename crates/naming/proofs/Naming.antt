@@ -1,7 +1,7 @@
 -- The row for a row's words with one word on or off. Where the word ends, the mark changes; before that, the target of its first letter is the
 -- row for what is left. Whether a word is among the words of a row is asked letter by letter, and so only this one word's answer changes. The
 -- words of the targets are shorter than 24 letters, because those of the row have at most 24. Assumes nothing.
-use Prim.Native.Nat.{ℕ, suc, _+_, _≤_, _<_}
+use Prim.Native.Nat.{ℕ, suc, _≤_, _<_}
 use native.Mathlib.Omega.{arith}
 use native.Mathlib.Decide.{ℕ-discrete}
 use mathlib.Core.Path.{_≡_, refl, sym, _∙_}
@@ -36,7 +36,7 @@ use Rattle.growing.specs.Rows.{endMark, wordsOver}
 use Rattle.growing.specs.declared.makes.Made.{Made}
 use Rattle.growing.specs.declared.makes.Made.the-variants.{Full}
 use Rattle.growing.specs.Growing.{Fitting, MadeRow, MadeFull, Makes}
-use Rattle.growing.proofs.Growing.{Within, within-after, makes-on, full-on}
+use Rattle.growing.proofs.Growing.{Within, within-after, grows-self, makes-on, full-within}
 use Rattle.growing.proofs.Targets.{end-marked, mark-ends}
 
 -- a row's mark and targets, or those of a missing row
@@ -195,11 +195,10 @@ module _ (t : Table) (tidy : Tidy t) (r : ℕ) (named : Named t r) where
         )
         (within-after first first-letter (withName on (first ∷ left) (words t r)))
 
-    one-more : suc (length (rest name)) + 1 ≡ suc (length name)
-    one-more = omega (arith, rest-length name some)
-
     pub path-full : (u : Table) → MadeFull (suc (length (rest name))) t u (withName on left (words t next)) → Makes (suc (length name)) t u wanted Full
-    path-full u full = rw one-more at (full-on full 1 wanted left-within)
+    path-full u full =
+        makes-on (grows-self t tidy wanted) u wanted (λ ls needed. needed) _ (suc (length name)) (λ n _ h. omega (arith, rest-length name some)) Full
+        (full-within full left-within)
 
     module _ (u : Table) (n : ℕ) (made : MadeRow (suc (length (rest name))) t u (withName on left (words t next)) n) where
       made-there : MadeRow (suc (length (rest name))) t u (withName on left (words t (targetOf t r first))) n
@@ -213,4 +212,5 @@ module _ (t : Table) (tidy : Tidy t) (r : ℕ) (named : Named t r) where
       path-made v new m =
           let same : wordsOver u (markOf t r) (set (targetsOf t r) first n) ≡ wanted =
           rw (word-rest name some) (step-words on first left first-letter left-spelled left-short u n _ made-there) in
-          rw one-more at (makes-on made 1 v wanted left-within new (rw same at m))
+          makes-on (made .grows) v wanted left-within 1 (suc (length name)) (λ n _ h. omega (arith, made .few, rest-length name some)) new
+          (rw same at m)

@@ -32,7 +32,7 @@ use Rattle.rows.proofs.Skipping.{past}
 use Rattle.index.specs.Arcs.{arcsFrom, arcsOf, arcsTo, Arcs, Adds}
 use Rattle.index.proofs.Arcs.{adds-none, adds-both, arcs-more, arcs-zero, arc-counted, counted-arc, below-most, row-counted}
 use Rattle.reaching.specs.Marks.{Marks}
-use Rattle.reaching.specs.Leads.{startsAt, leadsTo, Owes, Releases, ReachedWith}
+use Rattle.reaching.specs.Leads.{startsAt, ledArcs, leadsTo, Owes, Releases, ReachedWith}
 
 module _ (t : Table) where
   -- the starts, one by one
@@ -40,7 +40,7 @@ module _ (t : Table) where
   unfolding total
   starts-more m s = refl
 
-  pub starts-most : (m s : ℕ) → startsAt t m s ≤ m
+  starts-most : (m s : ℕ) → startsAt t m s ≤ m
   unfolding total
   starts-most zero s = omega arith
   starts-most (suc m) s = omega (arith, starts-most m s, flag-le (eqb (start t m) s))
@@ -124,7 +124,7 @@ module _ {t : Table} {n : ℕ} {leads : List ℕ} (debt : ℕ → ℕ) (used : U
   kept-leads : 0 < getD (less leads n) n 0 → (s : ℕ) → leadsTo t (less leads n) s ≡ leadsTo t leads s
   kept-leads some s = rw (total-agree (rowCount t) _ _ (λ r h. same r))
     where
-      same : (r : ℕ) → cond (ltb 0 (getD (less leads n) r 0)) (arcsOf t r s) 0 ≡ cond (ltb 0 (getD leads r 0)) (arcsOf t r s) 0
+      same : (r : ℕ) → ledArcs t (less leads n) s r ≡ ledArcs t leads s r
       same r =
           elim (ℕ-discrete r n) [
             | yes e ↦ rw (e, lt-ltb 0 (getD (less leads n) n 0) some, lt-ltb 0 (getD leads n 0) owed-there)
@@ -134,21 +134,15 @@ module _ {t : Table} {n : ℕ} {leads : List ℕ} (debt : ℕ → ℕ) (used : U
   -- nothing does
   lost-leads : getD (less leads n) n 0 ≡ 0 → (s : ℕ) → leadsTo t leads s ≡ leadsTo t (less leads n) s + arcsFrom t n letters s
   lost-leads none s =
-      omega (arith, total-but-one (rowCount t) n given given-after (used .inside) same, here, gone)
+      omega (arith, total-but-one (rowCount t) n (ledArcs t leads s) (ledArcs t (less leads n) s) (used .inside) same, here, gone)
     where
-      given : ℕ → ℕ
-      given r = cond (ltb 0 (getD leads r 0)) (arcsOf t r s) 0
-
-      given-after : ℕ → ℕ
-      given-after r = cond (ltb 0 (getD (less leads n) r 0)) (arcsOf t r s) 0
-
-      same : (r : ℕ) → (r ≡ n → ⊥) → given r ≡ given-after r
+      same : (r : ℕ) → (r ≡ n → ⊥) → ledArcs t leads s r ≡ ledArcs t (less leads n) s r
       same r other = rw (less-else r other)
 
-      here : given n ≡ arcsFrom t n letters s
+      here : ledArcs t leads s n ≡ arcsFrom t n letters s
       here = rw (lt-ltb 0 (getD leads n 0) owed-there) (arcs-of-used t n s used)
 
-      gone : given-after n ≡ 0
+      gone : ledArcs t (less leads n) s n ≡ 0
       gone = rw none
 
   pub paid-at-once : 0 < getD (less leads n) n 0 → Owes t (less leads n) debt
@@ -176,14 +170,14 @@ module _ {t : Table} {n x : ℕ} {leads : List ℕ} {debt : ℕ → ℕ} where
             );
       }
 
-  pub owes-paid : x < letters → Owes t leads (λ s. debt s + (arcsFrom t n letters s - arcsFrom t n (suc x) s)) → Paid t n (suc x) leads debt
+  owes-paid : x < letters → Owes t leads (λ s. debt s + (arcsFrom t n letters s - arcsFrom t n (suc x) s)) → Paid t n (suc x) leads debt
   owes-paid h o =
       record {
         long = o .long;
         paid = λ s some inside. omega (arith, o .owes s some inside, total-more (λ y. flag (eqb (target t n y) s)) (suc x) letters h);
       }
 
-  pub paid-past : {e : ℕ} → NextArc t n x e → Paid t n x leads debt → Paid t n e leads debt
+  paid-past : {e : ℕ} → NextArc t n x e → Paid t n x leads debt → Paid t n e leads debt
   paid-past {e} next = past (λ y. target t n y) (λ y. Paid t n y leads debt) step x e (next .from) (next .none)
     where
       step : (y : ℕ) → target t n y ≡ 0 → Paid t n y leads debt → Paid t n (suc y) leads debt
@@ -222,16 +216,13 @@ module _ {t : Table} {leads : List ℕ} (tidy : Tidy t) (o : Owes t leads (λ s.
       let v = tidy .targets r x a in
       omega (
         arith,
-        total-one given (rowCount t) r (a .used .inside),
+        total-one (ledArcs t leads (target t r x)) (rowCount t) r (a .used .inside),
         here,
         of-counted t r x a,
         o .owes (target t r x) (v .positive) (v .inside),
       )
     where
-      given : ℕ → ℕ
-      given q = cond (ltb 0 (getD leads q 0)) (arcsOf t q (target t r x)) 0
-
-      here : given r ≡ arcsOf t r (target t r x)
+      here : ledArcs t leads (target t r x) r ≡ arcsOf t r (target t r x)
       here = rw (lt-ltb 0 (getD leads r 0) some)
 
   -- what leads to a row
@@ -245,13 +236,10 @@ module _ {t : Table} {leads : List ℕ} (tidy : Tidy t) (o : Owes t leads (λ s.
       elim (decLt 0 (startsAt t missions s)) [
         | yes at ↦ inl (counted-start t s at)
         | no none ↦
-            let (r, below, g) = total-some given (rowCount t) (omega (arith, o .owes s some inside)) in
+            let (r, below, g) = total-some (ledArcs t leads s) (rowCount t) (omega (arith, o .owes s some inside)) in
             inr (go r (ltb 0 (getD leads r 0)) refl g)
       ]
     where
-      given : ℕ → ℕ
-      given r = cond (ltb 0 (getD leads r 0)) (arcsOf t r s) 0
-
       go : (r : ℕ) (b : Bool) → ltb 0 (getD leads r 0) ≡ b → 0 < cond b (arcsOf t r s) 0
           → (r : ℕ) × (x : ℕ) × Arc t r x × (target t r x ≡ s) × (0 < getD leads r 0)
       go r true e g = let (x, a, at) = counted-of t r s some g in (r, x, a, at, ltb-true 0 (getD leads r 0) e)
@@ -292,8 +280,7 @@ module _ {t : Table} {leads : List ℕ} (tidy : Tidy t) (o : Owes t leads (λ s.
   pub led-marks : Marks t (λ s. reached t s) leads
   led-marks = record { long = o .long; marks = led-rows }
 
--- no more arcs lead to a row than there are letters in all rows
--- the starts before m lead to their rows besides the arcs: one more fits
+-- no more arcs lead to a row than there are letters in all rows, and the starts before m lead to their rows besides: one more fits
 pub starts-fit : {t : Table} {arcs leads : List ℕ} (m n : ℕ) → Tidy t → Arcs t arcs → Adds (λ s. startsAt t m s) arcs leads → m ≤ missions
     → Named t n → 0 < n → getD leads n 0 ≤ mostRows * letters + missions
 starts-fit {t} m n tidy counted added h named some =

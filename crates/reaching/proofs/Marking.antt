@@ -26,10 +26,10 @@ use Rattle.rows.proofs.Skipping.{past}
 use Rattle.reaching.specs.Marks.{Marks, Pointed, Roots, marked}
 
 -- nothing written points at no row, one write points at one, and one list of writes behind another points at the rows of both
-pub points-nowhere : {at : ℕ → Bool} {p : List ℕ} → ((s : ℕ) → at s ≡ false) → Pointed at p p
+points-nowhere : {at : ℕ → Bool} {p : List ℕ} → ((s : ℕ) → at s ≡ false) → Pointed at p p
 points-nowhere none = record { long = refl; points = λ s h. rw (none s) }
 
-pub points-at-one : (p : List ℕ) (n : ℕ) → n < length p → Pointed (λ s. eqb n s) p (set p n 1)
+points-at-one : (p : List ℕ) (n : ℕ) → n < length p → Pointed (λ s. eqb n s) p (set p n 1)
 points-at-one p n inside =
     record {
       long = length-set p n 1;
@@ -40,7 +40,7 @@ points-at-one p n inside =
           ];
     }
 
-pub points-at-both : {first second both : ℕ → Bool} {p q r : List ℕ}
+points-at-both : {first second both : ℕ → Bool} {p q r : List ℕ}
     → Pointed first p q → Pointed second q r → ((s : ℕ) → 0 < s → both s ≡ (first s || second s)) → Pointed both p r
 points-at-both {first} {second} {both} {p} {q} {r} one two same =
     record {

@@ -34,11 +34,6 @@ use Rattle.chains.proofs.Levels.{used-level}
 use Rattle.reaching.specs.Marks.{Pointed, Marks, Roots, SpreadTo, Spreads, marked, turn, rootsOf}
 use Rattle.reaching.proofs.Marking.{marked-more, marks-same, roots-more, roots-none}
 
--- a row whose turn has come by this one had it before, or has it now
-turn-cases : (h k r s : ℕ) → r < mostRows → s < mostRows → turn h r ≤ turn k s → (turn h (suc r) ≤ turn k s) ⊎ (s ≡ r)
-turn-cases h k r s below inside early =
-    elim (ℕ-discrete (turn k s) (turn h r)) [ yes e ↦ inr (omega arith) | no e ↦ inl (omega arith) ]
-
 module _ {t : Table} where
   -- where no marked row has its turn on the way, nothing is to be marked
   pub spreads-same : {from to : ℕ} {p : List ℕ} → Roots t p
@@ -56,12 +51,14 @@ module _ {t : Table} where
 
 -- the row's turn
 module _ {t : Table} (tidy : Tidy t) {r : ℕ} {p : List ℕ} (u : Used t r) (roots : Roots t p) where
-  cases : (s : ℕ) → Used t s → turn (height t r) r ≤ turn (height t s) s → (turn (height t r) (suc r) ≤ turn (height t s) s) ⊎ (s ≡ r)
-  cases s v = turn-cases (height t r) (height t s) r s (omega arith) (omega arith)
+  -- a row whose turn has come by this one had it before, or has it now
+  turn-cases : (s : ℕ) → Used t s → turn (height t r) r ≤ turn (height t s) s → (turn (height t r) (suc r) ≤ turn (height t s) s) ⊎ (s ≡ r)
+  turn-cases s v early =
+      elim (ℕ-discrete (turn (height t s) s) (turn (height t r) r)) [ yes e ↦ inr (omega arith) | no e ↦ inl (omega arith) ]
 
   pub row-skipped : (marked p r ≡ true → ⊥) → Spreads t (turn (height t r) (suc r)) (turn (height t r) r) p p
   row-skipped other =
-      spreads-same roots (λ s v m early. elim (cases s v early) [ inl e ↦ e | inr same ↦ absurd (other (rw same at m)) ])
+      spreads-same roots (λ s v m early. elim (turn-cases s v early) [ inl e ↦ e | inr same ↦ absurd (other (rw same at m)) ])
 
   module _ {q : List ℕ} (m : marked p r ≡ true) (d : Pointed (λ s. pointsAt t r s) p q) where
     marked-now : (s : ℕ) → isRow t s ≡ true → marked q s ≡ (pointsAt t r s || marked p s)
@@ -105,7 +102,7 @@ module _ {t : Table} (tidy : Tidy t) {r : ℕ} {p : List ℕ} (u : Used t r) (ro
                 rooted = λ s i v. stays s (used-row v) (old .rooted s i v);
                 before = λ s x a e early.
                     let there = used-row (tidy .targets s x a) in
-                    elim (cases s (a .used) early) [
+                    elim (turn-cases s (a .used) early) [
                       | inl earlier ↦ stays (target t s x) there (old .before s x a (was-marked s (a .used) e earlier) earlier)
                       | inr same ↦ rw (marked-now (target t s x) there, hit s x (a .letter) same)
                     ];

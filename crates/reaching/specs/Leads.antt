@@ -17,9 +17,13 @@ use Rattle.index.specs.Arcs.{arcsOf}
 abbrev pub startsAt : Table → ℕ → ℕ → ℕ
 startsAt t n s = total n (λ m. flag (eqb (start t m) s))
 
+-- how many arcs of row r lead to row s, if something leads to row r
+abbrev pub ledArcs : Table → List ℕ → ℕ → ℕ → ℕ
+ledArcs t leads s r = cond (ltb 0 (getD leads r 0)) (arcsOf t r s) 0
+
 -- what leads to row s
 abbrev pub leadsTo : Table → List ℕ → ℕ → ℕ
-leadsTo t leads s = startsAt t missions s + total (rowCount t) (λ r. cond (ltb 0 (getD leads r 0)) (arcsOf t r s) 0)
+leadsTo t leads s = startsAt t missions s + total (rowCount t) (λ r. ledArcs t leads s r)
 
 -- the array says so, but for what is still to be taken off
 pub record Owes (t : Table) (leads : List ℕ) (debt : ℕ → ℕ) : Type 0 where

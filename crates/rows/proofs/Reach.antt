@@ -55,10 +55,10 @@ module _ (t : Table) where
               (arc-reached most (target t n y) s x (target-named t tidy n y u h) (λ v. omega (arith, low u, target-lower t tidy n y u h v)) g a)
         ]
 
-    pub reaches-self : (r : ℕ) → Used t r → reaches t r r ≡ true
+    reaches-self : (r : ℕ) → Used t r → reaches t r r ≡ true
     reaches-self r u = here-reached _ r u (omega arith)
 
-    pub reaches-arc : (n s x : ℕ) → Named t n → reaches t n s ≡ true → Arc t s x → reaches t n (target t s x) ≡ true
+    reaches-arc : (n s x : ℕ) → Named t n → reaches t n s ≡ true → Arc t s x → reaches t n (target t s x) ≡ true
     reaches-arc n s x named = arc-reached _ n s x named (λ u. omega (arith, tidy .low n u))
 
     module _ (P : ℕ → Type 0) (step : (s x : ℕ) → Arc t s x → P s → P (target t s x)) where
@@ -75,7 +75,7 @@ module _ (t : Table) where
                 (λ v. step n x (record { used = u; letter = h; there = v .positive }) (p u)) s g
           ]
 
-      pub reaches-all : (n : ℕ) → Named t n → (Used t n → P n) → (s : ℕ) → reaches t n s ≡ true → P s
+      reaches-all : (n : ℕ) → Named t n → (Used t n → P n) → (s : ℕ) → reaches t n s ≡ true → P s
       reaches-all n = all-reached _ n
 
     module _ (roots : List ℕ) (named : Each (Named t) roots) where

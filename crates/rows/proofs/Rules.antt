@@ -12,8 +12,10 @@ use lib.ListN.{length, getD}
 use borrow.Author.Tests.{ltb-true, leb-true, eqb-true, lt-ltb, le-leb, eq-eqb, ne-eqb}
 use Rattle.letters.specs.Letters.{letters}
 use Rattle.letters.specs.Names.{longest}
-use Rattle.sets.specs.Below.{allBelow, someBelow, greatest}
-use Rattle.sets.proofs.Below.{all-below, below-all, some-below, below-some, below-greatest, greatest-least}
+use Rattle.letters.specs.Below.{allBelow}
+use Rattle.letters.proofs.Below.{all-below, below-all}
+use Rattle.sets.specs.Below.{someBelow, greatest}
+use Rattle.sets.proofs.Below.{some-below, below-some, below-greatest, greatest-least}
 use Rattle.model.specs.Lists.{missions}
 use Rattle.rows.specs.Table.{Table, width, rowCount, leastRows, mostRows, lengthOk, isRow, inUse, room, usedRows}
 use Rattle.rows.specs.Table.{start, mark, height, target, number39}

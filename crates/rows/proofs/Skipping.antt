@@ -12,7 +12,7 @@ use lib.Dec.{eqb, ltb}
 use lib.ListN.{getD}
 use lib.Seq.{getD-take, getD-drop}
 use Rattle.letters.specs.Letters.{letters}
-use Rattle.sets.proofs.Below.{all-below}
+use Rattle.letters.proofs.Below.{all-below}
 use Rattle.sets.proofs.Membership.{fails}
 use Rattle.rows.specs.Table.{Table, width, target, rowTargets}
 use Rattle.rows.specs.Skips.{eightZeros, Zeros, Skipped, NextArc}

@@ -5,7 +5,8 @@ use lib.Dec.{eqb, leb, ltb}
 use lib.ListN.{getD}
 use Rattle.letters.specs.Letters.{letters}
 use Rattle.letters.specs.Names.{longest}
-use Rattle.sets.specs.Below.{allBelow, someBelow, greatest}
+use Rattle.letters.specs.Below.{allBelow}
+use Rattle.sets.specs.Below.{someBelow, greatest}
 use Rattle.model.specs.Lists.{missions}
 use Rattle.rows.specs.Table.{Table, width, rowCount, lengthOk, room, isRow, start, mark, height, target, number39, inUse, usedRows}
 

@@ -6,7 +6,7 @@ use mathlib.Core.List.{List}
 use lib.Dec.{eqb}
 use lib.ListN.{getD}
 use Rattle.letters.specs.Letters.{letters}
-use Rattle.sets.specs.Below.{allBelow}
+use Rattle.letters.specs.Below.{allBelow}
 use Rattle.rows.specs.Table.{Table, target}
 
 -- the eight numbers from a on are 0

@@ -8,8 +8,8 @@ use native.Mathlib.Omega.{arith}
 use borrow.Author.Tests.{ltb-true, ltb-false, eqb-true, lt-ltb, le-ltb, ne-eqb}
 use Rattle.letters.specs.Letters.{letters}
 use Rattle.letters.specs.Names.{longest}
+use Rattle.letters.proofs.Below.{all-below}
 use Rattle.sets.specs.Below.{someBelow, greatest}
-use Rattle.sets.proofs.Below.{all-below}
 use Rattle.rows.specs.Table.{Table, height, target, inUse}
 use Rattle.rows.specs.Rules.{ifUsed, targetsOk, above, heightOk, number39Ok, arcsOk, hasTarget, rule3}
 use Rattle.rows.proofs.Facts.{in-use-used}
@@ -35,11 +35,11 @@ above-positive t zero = refl
 above-positive t (suc n) = rw (ne-eqb (suc n) 0 (λ e. omega arith), lt-ltb 0 (suc (height t (suc n))) (omega arith), lt-ltb 0 (suc n) (omega arith))
 
 module _ (t : Table) (holds : rule3 t ≡ true) (r : ℕ) (used : inUse t r ≡ true) where
-  pub arcs-fine : arcsOk t r ≡ true
+  arcs-fine : arcsOk t r ≡ true
   unfolding rule3
   arcs-fine = rw used at (all-below (λ s. ifUsed t s (arcsOk t s)) _ holds r (in-use-used t r used .inside))
 
-  pub height-greatest : height t r ≡ greatest letters (λ x. above t (target t r x))
+  height-greatest : height t r ≡ greatest letters (λ x. above t (target t r x))
   height-greatest =
       let (_, rest) = and-eq-true-iff (targetsOk t r) (heightOk t r && number39Ok t r) .0 arcs-fine in
       let (fine, _) = and-eq-true-iff (heightOk t r) (number39Ok t r) .0 rest in

@@ -1,8 +1,8 @@
--- The laws of what is said of the numbers below n and of what they give: the tests pass at all of them, or at one; what stands in the list of
--- what they give stands in what one of them gives, and lists of words that rise, one before the other, give a list that rises; its length is
--- the sum of their lengths, and what each gives stands behind as many as the lower ones give; the greatest is at least each, and at most what
--- is at least each; a sum holds the sum of fewer, is the same where the others give 0, and differs by one number where only one gives another; and
--- the list of one thing of each has them in their places. Assumes nothing.
+-- The laws of what is said of the numbers below n and of what they give: a test passes at one of them; what stands in the list of what they
+-- give stands in what one of them gives, and lists of words that rise, one before the other, give a list that rises; its length is the sum of
+-- their lengths, and what each gives stands behind as many as the lower ones give; the greatest is at least each, and at most what is at least
+-- each; a sum holds the sum of fewer, is the same where the others give 0, and differs by one number where only one gives another; and the list
+-- of one thing of each has them in their places. Assumes nothing.
 use Prim.Native.Nat.{ℕ, zero, suc, _+_, _*_, _≤_, _<_}
 use native.Mathlib.Omega.{arith}
 use native.Mathlib.Decide.{ℕ-discrete, decLt}
@@ -16,10 +16,10 @@ use lib.Seq.{getD-at, getD-append-add}
 use borrow.Author.Tests.{ltb-true, eqb-true, lt-ltb, eq-eqb}
 use Rattle.letters.specs.Each.{Each}
 use Rattle.letters.specs.Words.{Word, before}
-use Rattle.sets.specs.Below.{allBelow, someBelow, greatest, total, over, each}
+use Rattle.sets.specs.Below.{someBelow, greatest, total, over, each}
 use Rattle.sets.specs.Sets.{Words, member, Rising, keep}
 use Rattle.sets.proofs.Sets.{member-append, rising-append}
-use Rattle.sets.proofs.Membership.{either, fails, In, each-append, nil-in, append-in, in-left, in-right, keep-append}
+use Rattle.sets.proofs.Membership.{either, In, each-append, nil-in, append-in, in-left, in-right, keep-append}
 
 -- two tests that pass together are the same
 pub tests-agree : (a b : Bool) → (a ≡ true → b ≡ true) → (b ≡ true → a ≡ true) → a ≡ b
@@ -28,21 +28,6 @@ tests-agree false true f g = g refl
 tests-agree false false f g = refl
 
 module _ (test : ℕ → Bool) where
-  pub all-below : (n : ℕ) → allBelow n test ≡ true → (i : ℕ) → i < n → test i ≡ true
-  unfolding allBelow
-  all-below zero h i below = absurd (omega arith)
-  all-below (suc n) h i below =
-      let (rest, last) = and-eq-true-iff (allBelow n test) (test n) .0 h in
-      elim (ℕ-discrete i n) [ yes e ↦ rw e last | no e ↦ all-below n rest i (omega arith) ]
-
-  pub below-all : (n : ℕ) → ((i : ℕ) → i < n → test i ≡ true) → allBelow n test ≡ true
-  unfolding allBelow
-  below-all zero f = refl
-  below-all (suc n) f = rw (below-all n (λ i h. f i (omega arith)), f n (omega arith))
-
-  pub not-all-below : (n i : ℕ) → i < n → test i ≡ false → allBelow n test ≡ false
-  not-all-below n i h e = fails (allBelow n test) (λ d. false≢true (sym e ∙ all-below n d i h))
-
   pub some-below : (n : ℕ) → someBelow n test ≡ true → (i : ℕ) × (i < n) × (test i ≡ true)
   unfolding someBelow
   some-below zero h = absurd (false≢true h)

@@ -5,9 +5,11 @@ use native.Mathlib.Numerals.{add-one}
 use native.Mathlib.Omega.{arith}
 use mathlib.Core.Path.{_≡_, sym, _∙_}
 use mathlib.Core.Bool.{Bool, true, false, false≢true}
-use Rattle.sets.specs.Below.{allBelow, someBelow}
+use Rattle.letters.specs.Below.{allBelow}
+use Rattle.letters.proofs.Below.{all-below, below-all}
+use Rattle.sets.specs.Below.{someBelow}
 use Rattle.sets.proofs.Membership.{fails}
-use Rattle.sets.proofs.Below.{all-below, below-all, some-below, below-some}
+use Rattle.sets.proofs.Below.{some-below, below-some}
 
 module _ (test : ℕ → Bool) (i : ℕ) where
   pub all-more : allBelow i test ≡ true → test i ≡ true → allBelow (i + 1) test ≡ true

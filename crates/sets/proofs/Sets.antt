@@ -28,7 +28,7 @@ same-test test u v = go (same u v) refl
     go true e = rw (same-eq u v e)
     go false e = simp and-false
 
-pub member-keep : (test : Word → Bool) (u : Word) (l : Words) → member u (keep test l) ≡ (test u && member u l)
+member-keep : (test : Word → Bool) (u : Word) (l : Words) → member u (keep test l) ≡ (test u && member u l)
 unfolding member keep
 member-keep test u [] = rw and-false
 member-keep test u (v ∷ vs) = rw (member-cond, member-keep test u vs, same-test test u v, ← and-or-distrib-left)
@@ -129,7 +129,7 @@ rising-cond false v l h r = r
 above-keep : (test : Word → Bool) (w : Word) (l : Words) → Above w l → Above w (keep test l)
 above-keep test w l h = members-above w (keep test l) (λ u m. member-above w l h u (kept test u l m))
 
-pub rising-keep : (test : Word → Bool) (l : Words) → Rising l → Rising (keep test l)
+rising-keep : (test : Word → Bool) (l : Words) → Rising l → Rising (keep test l)
 unfolding keep
 rising-keep test [] r = tt
 rising-keep test (v ∷ vs) r = rising-cond (test v) v (keep test vs) (λ e. above-keep test v vs (r .0)) (rising-keep test vs (r .1))
@@ -137,7 +137,7 @@ rising-keep test (v ∷ vs) r = rising-cond (test v) v (keep test vs) (λ e. abo
 above-insert : (v w : Word) (l : Words) → before v w ≡ true → Above v l → Above v (insert w l)
 above-insert v w l b h = members-above v (insert w l) (inserted (λ u. before v u ≡ true) w l b (member-above v l h))
 
-pub rising-insert : (w : Word) (l : Words) → Rising l → Rising (insert w l)
+rising-insert : (w : Word) (l : Words) → Rising l → Rising (insert w l)
 unfolding insert
 rising-insert w [] r = (tt, tt)
 rising-insert w (v ∷ vs) r = go (rising-insert w vs (r .1)) (order w v) refl
@@ -146,23 +146,6 @@ rising-insert w (v ∷ vs) r = go (rising-insert w vs (r .1)) (order w v) refl
     go rest Ordering·lt e = (above-rising w v vs (rw e) r, r)
     go rest Ordering·eq e = r
     go rest Ordering·gt e = (above-insert v w vs (after-before w v e) (r .0), rest)
-
-pub rising-delete : (w : Word) (l : Words) → Rising l → Rising (delete w l)
-unfolding delete
-rising-delete w l = rising-keep (λ v. not (same v w)) l
-
-pub rising-both : (k l : Words) → Rising l → Rising (both k l)
-unfolding both
-rising-both [] l r = r
-rising-both (v ∷ vs) l r = rising-insert v (both vs l) (rising-both vs l r)
-
-pub rising-common : (k l : Words) → Rising k → Rising (common k l)
-unfolding common
-rising-common k l = rising-keep (λ v. member v l) k
-
-pub rising-without : (k l : Words) → Rising k → Rising (without k l)
-unfolding without
-rising-without k l = rising-keep (λ v. not (member v l)) k
 
 -- one list behind another
 pub rising-append : (k l : Words) → Rising k → Rising l → ((u v : Word) → member u k ≡ true → member v l ≡ true → before u v ≡ true)
@@ -178,7 +161,7 @@ unfolding member
 above-absent w [] h = refl
 above-absent w (v ∷ vs) h = rw (before-not-same w v (h .0)) (above-absent w vs (h .1))
 
-pub ext : (k l : Words) → Rising k → Rising l → ((w : Word) → member w k ≡ member w l) → k ≡ l
+ext : (k l : Words) → Rising k → Rising l → ((w : Word) → member w k ≡ member w l) → k ≡ l
 unfolding member
 ext [] [] r s f = refl
 ext [] (v ∷ vs) r s f = cc (f v, same-refl v)

@@ -1,12 +1,7 @@
 -- What is said of the numbers below n, and what they give. Assumes nothing.
 use Prim.Native.Nat.{ℕ, zero, suc, _+_, max}
-use mathlib.Core.Bool.{Bool, true, false, cond, _&&_, _||_}
+use mathlib.Core.Bool.{Bool, false, cond, _||_}
 use mathlib.Core.List.{List, [], _∷_, _++_}
-
--- the test passes at all of them
-unfoldable pub allBelow : ℕ → (ℕ → Bool) → Bool
-allBelow zero test = true
-allBelow (suc n) test = allBelow n test && test n
 
 -- the test passes at some of them
 unfoldable pub someBelow : ℕ → (ℕ → Bool) → Bool

@@ -147,7 +147,7 @@ module _ (t : Table) (m r : ℕ) (tidy : Tidy t) (below : m < missions) where
                 (sym (replace-other (lists t) m k (words t r) e ∙ list-names t k inside))
           ])
 
-  pub start-fits : Startable t r
+  start-fits : Startable t r
       → leb (countOf (rowCount (withStart t m r)) (λ s. reached (withStart t m r) s)) (room (withStart t m r)) ≡ fits t m (words t r)
   start-fits startable =
       rw (starts-need (withStart t m r) (start-tidy startable), start-lists, start-long t m r below)

@@ -38,7 +38,7 @@ module _ (t : Table) (test : ℕ → Bool) where
   unfolding onlyRows
   only-length = length-each _ (length t)
 
-  pub only-cell : (j : ℕ) → j < length t → getD (onlyRows t test) j 0 ≡ cond (ltb j width || test (j / width)) (getD t j 0) 0
+  only-cell : (j : ℕ) → j < length t → getD (onlyRows t test) j 0 ≡ cond (ltb j width || test (j / width)) (getD t j 0) 0
   unfolding onlyRows
   only-cell j h = each-at (λ j. cond (ltb j width || test (j / width)) (getD t j 0) 0) (length t) j 0 h
 
@@ -107,7 +107,7 @@ module _ (t : Table) (tidy : Tidy t) where
   root-swept : (r : ℕ) → In r (starts t) → Used t r → Used (swept t) r
   root-swept r i p = reached-swept r (reached-root t tidy (starts t) (starts-named t tidy) r i p)
 
-  pub swept-tidy : Tidy (swept t)
+  swept-tidy : Tidy (swept t)
   swept-tidy = part-tidy t (swept t) swept-part tidy first rest zeros
     where
       first : (m : ℕ) → m < missions → 0 < start (swept t) m → Used (swept t) (start (swept t) m) × (mark (swept t) (start (swept t) m) ≡ 1)

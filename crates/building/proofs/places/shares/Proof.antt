@@ -8,8 +8,8 @@ use borrow.Author.Tests.{lt-ltb, le-ltb, not-true, not-false}
 use lib.Dec.{eqb}
 use lib.ListN.{length, getD}
 use Rattle.letters.specs.Letters.{letter}
-use Rattle.sets.specs.Below.{allBelow}
-use Rattle.sets.proofs.Below.{not-all-below}
+use Rattle.letters.specs.Below.{allBelow}
+use Rattle.letters.proofs.Below.{not-all-below}
 use Rattle.sets.proofs.Loops.{all-more, all-done}
 use Rattle.building.proofs.places.shares.Statement.{statement}
 use Rattle.building.proofs.places.shares.Tie as tie

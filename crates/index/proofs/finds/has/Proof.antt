@@ -9,7 +9,7 @@ use borrow.Author.Needs.{needs}
 use lib.Dec.{eqb}
 use lib.ListN.{getD}
 use Rattle.letters.specs.Letters.{letters}
-use Rattle.sets.specs.Below.{allBelow}
+use Rattle.letters.specs.Below.{allBelow}
 use Rattle.rows.specs.Table.{mark, target}
 use Rattle.index.proofs.finds.has.Statement.{statement}
 use Rattle.index.proofs.finds.has.Tie as tie

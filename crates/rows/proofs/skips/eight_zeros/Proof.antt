@@ -5,7 +5,7 @@ use mathlib.Core.Path.{_≡_, refl, _∙_}
 use native.Mathlib.Numerals.{add-one}
 use lib.Dec.{eqb}
 use lib.ListN.{getD}
-use Rattle.sets.specs.Below.{allBelow}
+use Rattle.letters.specs.Below.{allBelow}
 use Rattle.rows.proofs.Skipping.{or-none}
 use native.Mathlib.Omega.{arith}
 use borrow.Author.Needs.{needs}

@@ -16,8 +16,9 @@ use lib.ListN.{getD}
 use Rattle.letters.specs.Letters.{letters}
 use Rattle.letters.specs.LetterSet.{flag}
 use Rattle.letters.specs.Names.{longest}
-use Rattle.sets.specs.Below.{allBelow, total, greatest}
-use Rattle.sets.proofs.Below.{not-all-below}
+use Rattle.letters.specs.Below.{allBelow}
+use Rattle.letters.proofs.Below.{not-all-below}
+use Rattle.sets.specs.Below.{total, greatest}
 use Rattle.rows.specs.Table.{Table, rowCount, mostRows, mark, height, target, inUse}
 use Rattle.rows.specs.Rules.{above, number39Ok, arcsOk}
 use Rattle.rules.specs.declared.arcs.Demand.the-variants.{Height, Broken}

@@ -10,8 +10,9 @@ use native.Mathlib.Omega.{arith}
 use borrow.Author.Needs.{needs}
 use borrow.Author.Tests.{not-true, not-false}
 use Rattle.letters.specs.Letters.{letters}
-use Rattle.sets.specs.Below.{allBelow, total}
-use Rattle.sets.proofs.Below.{not-all-below}
+use Rattle.letters.specs.Below.{allBelow}
+use Rattle.letters.proofs.Below.{not-all-below}
+use Rattle.sets.specs.Below.{total}
 use Rattle.rows.specs.Table.{Table, rowCount}
 use Rattle.rows.specs.Rules.{ifUsed, arcsOk, rule3}
 use Rattle.index.specs.Index.{Keyed}

@@ -5,8 +5,8 @@ use mathlib.Core.Bool.{true}
 use native.Mathlib.Omega.{arith}
 use borrow.Author.Needs.{needs}
 use borrow.Author.Tests.{not-true, not-false}
-use Rattle.sets.specs.Below.{allBelow}
-use Rattle.sets.proofs.Below.{not-all-below}
+use Rattle.letters.specs.Below.{allBelow}
+use Rattle.letters.proofs.Below.{not-all-below}
 use Rattle.rows.specs.Rules.{ifUsed, endOk, rule4}
 use Rattle.sets.proofs.Loops.{all-more, all-done}
 use Rattle.rules.proofs.ends.rule4.Statement.{statement}

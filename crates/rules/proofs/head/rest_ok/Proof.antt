@@ -9,7 +9,8 @@ use borrow.Author.Needs.{needs}
 use borrow.Author.Tests.{eq-eqb, eqb-true, lt-ltb, le-ltb}
 use lib.Dec.{eqb, ltb}
 use lib.ListN.{getD}
-use Rattle.sets.proofs.Below.{tests-agree, all-below, below-all}
+use Rattle.letters.proofs.Below.{all-below, below-all}
+use Rattle.sets.proofs.Below.{tests-agree}
 use Rattle.model.specs.Lists.{missions}
 use Rattle.rows.specs.Table.{Table, width}
 use Rattle.rows.specs.Rules.{restOk}

@@ -5,8 +5,8 @@ use mathlib.Core.Bool.{Bool, true}
 use native.Mathlib.Omega.{arith}
 use borrow.Author.Needs.{needs}
 use borrow.Author.Tests.{not-true, not-false}
-use Rattle.sets.specs.Below.{allBelow}
-use Rattle.sets.proofs.Below.{not-all-below}
+use Rattle.letters.specs.Below.{allBelow}
+use Rattle.letters.proofs.Below.{not-all-below}
 use Rattle.model.specs.Lists.{missions}
 use Rattle.rows.specs.Table.{Table, start}
 use Rattle.rows.specs.Rules.{startOk}

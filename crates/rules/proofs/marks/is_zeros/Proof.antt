@@ -8,7 +8,8 @@ use borrow.Author.Needs.{needs}
 use borrow.Author.Tests.{eq-eqb, eqb-true}
 use lib.Dec.{eqb}
 use lib.ListN.{getD}
-use Rattle.sets.proofs.Below.{tests-agree, all-below, below-all}
+use Rattle.letters.proofs.Below.{all-below, below-all}
+use Rattle.sets.proofs.Below.{tests-agree}
 use Rattle.rows.specs.Table.{Table, width}
 use Rattle.rows.specs.Rules.{isZeros}
 use Rattle.rows.specs.Skips.{Skipped}

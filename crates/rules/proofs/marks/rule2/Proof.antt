@@ -5,8 +5,8 @@ use mathlib.Core.Bool.{Bool, true, not, _||_}
 use native.Mathlib.Omega.{arith}
 use borrow.Author.Needs.{needs}
 use borrow.Author.Tests.{not-true, not-false}
-use Rattle.sets.specs.Below.{allBelow}
-use Rattle.sets.proofs.Below.{not-all-below}
+use Rattle.letters.specs.Below.{allBelow}
+use Rattle.letters.proofs.Below.{not-all-below}
 use Rattle.rows.specs.Table.{Table, rowCount, isRow}
 use Rattle.rows.specs.Rules.{markOk, rule2}
 use Rattle.rows.proofs.Facts.{inside-row}
