@@ -16,7 +16,7 @@ pub order-cons : (x : ℕ) (u v : Word) → order (x ∷ u) (x ∷ v) ≡ order 
 unfolding order
 order-cons x u v = rw compare-same
 
-order-refl : (w : Word) → order w w ≡ Ordering·eq
+pub order-refl : (w : Word) → order w w ≡ Ordering·eq
 unfolding order
 order-refl [] = refl
 order-refl (x ∷ w) = rw compare-same (order-refl w)

@@ -24,6 +24,22 @@ pub run-ruled : (b : Book) (c : Call) → run b c ≡ ruled b (rule b c)
 unfolding run
 run-ruled b c = refl
 
+-- 0, "done"
+pub done-number : (b : Book) (c : Call) → rule b c .done .number ≡ 0
+done-number b empty = refl
+done-number b check = refl
+done-number b (ask m name) = refl
+done-number b (next m prefix) = refl
+done-number b (add m name) = refl
+done-number b (remove m name) = refl
+done-number b (clear m) = refl
+done-number b (load m bytes) = refl
+done-number b (combine op x y z) = refl
+done-number b (count m) = refl
+done-number b (rank m name) = refl
+done-number b (nth m n size) = refl
+done-number b used = refl
+
 module _ (b : Book) where
   -- whatever is read of the lists
   pub refused-or-done : {A : Type 0} (read : List Words → A) (r : Rule) → read (r .done .lists) ≡ read (b .lists)

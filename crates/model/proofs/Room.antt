@@ -32,6 +32,7 @@ use Rattle.model.specs.Changes.{refusedForRoom}
 use Rattle.model.specs.Room.{OnlyRoom, RoomExact}
 use Rattle.model.proofs.Lists.{replace-each, list-each}
 use Rattle.model.proofs.Names.{plain-with-name, with-name-each}
+use Rattle.model.proofs.Changes.{done-number}
 use Rattle.model.proofs.Combined.{plain-combined, combined-each}
 
 -- ---- the lists that a call would leave
@@ -128,13 +129,13 @@ given-last (r ∷ s ∷ rs) e only =
 
 -- what is given is what 11 gives, and what is done has number 0
 abbrev ByRoom : Book → Call → Type 0
-ByRoom b c = (given (rule b c .refusals) ≡ given (noRoom b (rule b c .done .lists) ∷ [])) × (rule b c .done .number ≡ 0)
+ByRoom b c = given (rule b c .refusals) ≡ given (noRoom b (rule b c .done .lists) ∷ [])
 
 only-room : (b : Book) (c : Call) → refusedForRoom c ≡ true → OnlyRoom b c → ByRoom b c
-only-room b (add m name) e only = (given-last (rule b (add m name) .refusals) refl only, refl)
-only-room b (remove m name) e only = (given-last (rule b (remove m name) .refusals) refl only, refl)
-only-room b (load m bytes) e only = (given-last (rule b (load m bytes) .refusals) refl only, refl)
-only-room b (combine op x y z) e only = (given-last (rule b (combine op x y z) .refusals) refl only, refl)
+only-room b (add m name) e only = given-last (rule b (add m name) .refusals) refl only
+only-room b (remove m name) e only = given-last (rule b (remove m name) .refusals) refl only
+only-room b (load m bytes) e only = given-last (rule b (load m bytes) .refusals) refl only
+only-room b (combine op x y z) e only = given-last (rule b (combine op x y z) .refusals) refl only
 only-room b empty e only = absurd (false≢true e)
 only-room b (clear m) e only = absurd (false≢true e)
 only-room b check e only = absurd (false≢true e)
@@ -156,7 +157,7 @@ room-exact b c sets room only n few = go (ltb (b .room) (need (rule b c .done .l
     go : (over : Bool) → ltb (b .room) (need (rule b c .done .lists)) ≡ over → RoomExact b c n
     go true e =
         let more : b .room < n = rw counted at (ltb-true (b .room) (need (rule b c .done .lists)) e) in
-        let eleven : run b c ≡ refused 11 b = rw (only-room b c room only .0, e) in
+        let eleven : run b c ≡ refused 11 b = rw (only-room b c room only, e) in
         record {
           refused-over = λ d. more;
           over-refused = λ h. ap (λ (o : Outcome). o .number) eleven;
@@ -164,9 +165,9 @@ room-exact b c sets room only n few = go (ltb (b .room) (need (rule b c .done .l
         }
     go false e =
         let most : n ≤ b .room = rw counted at (ltb-false (b .room) (need (rule b c .done .lists)) e) in
-        let done : run b c ≡ rule b c .done = rw (only-room b c room only .0, e) in
+        let done : run b c ≡ rule b c .done = rw (only-room b c room only, e) in
         record {
-          refused-over = λ d. absurd (omega (arith, ap (λ (o : Outcome). o .number) done, only-room b c room only .1));
+          refused-over = λ d. absurd (omega (arith, ap (λ (o : Outcome). o .number) done, done-number b c));
           over-refused = λ h. absurd (omega arith);
           within-done = λ h. done;
         }

@@ -6,3 +6,4 @@ pub mod Nothing
 pub mod Tight
 pub mod AnyCalls
 pub mod Fewest
+pub mod Room

@@ -25,15 +25,15 @@ use Rattle.promises.specs.Walks.{askWalk, nextWalk}
 use Rattle.promises.specs.Promises.{outcomeOf}
 
 -- what a call comes to when done decides only where nothing refuses it
-same-outcome : (b : Book) (n : ℕ) (d e : Outcome) → (n ≡ 0 → d ≡ e) → outcome b n d ≡ outcome b n e
+pub same-outcome : (b : Book) (n : ℕ) (d e : Outcome) → (n ≡ 0 → d ≡ e) → outcome b n d ≡ outcome b n e
 same-outcome b zero d e f = f refl
 same-outcome b (suc n) d e f = refl
 
 -- where nothing refuses a call, none of its refusals applies
-none-applies : (b : Book) (call : Call) (r : Refusal) → In r (rule b call .refusals) → given (rule b call .refusals) ≡ 0 → r .applies ≡ false
+pub none-applies : (b : Book) (call : Call) (r : Refusal) → In r (rule b call .refusals) → given (rule b call .refusals) ≡ 0 → r .applies ≡ false
 none-applies b call r i none = fails (r .applies) (λ e. omega (arith, lowest-given b call .lowest r i e .0))
 
-mission-below : (b : Book) (call : Call) (m : ℕ) → In (badMission m) (rule b call .refusals) → given (rule b call .refusals) ≡ 0 → m < missions
+pub mission-below : (b : Book) (call : Call) (m : ℕ) → In (badMission m) (rule b call .refusals) → given (rule b call .refusals) ≡ 0 → m < missions
 mission-below b call m i none = omega (arith, ltb-false lastMission m (none-applies b call (badMission m) i none))
 
 module _ (t : Table) (m : ℕ) (bytes : List ℕ) where

@@ -1,14 +1,14 @@
 -- What every call promises: its reply, the answer buffer after it, and the table after it. Assumes nothing.
-use Prim.Native.Nat.{ℕ, _<_}
+use Prim.Native.Nat.{ℕ, _≤_, _<_}
 use mathlib.Core.Path.{_≡_}
 use mathlib.Core.Bool.{true, cond}
 use mathlib.Core.List.{List}
 use lib.ListN.{length, replicate}
 use Rattle.model.specs.Call.{Call, Outcome, overlaid}
 use Rattle.model.specs.Call.Call.{empty, check, ask, next, add, remove, clear, load, combine, count, rank, nth, used}
-use Rattle.model.specs.Run.{ruled, run}
+use Rattle.model.specs.Run.{rule, ruled, run}
 use Rattle.model.specs.Changes.{isChange}
-use Rattle.rows.specs.Table.{Table, lengthOk}
+use Rattle.rows.specs.Table.{Table, lengthOk, room}
 use Rattle.rows.specs.Words.{lists}
 use Rattle.rows.specs.Rules.{sound}
 use Rattle.minimal.specs.Renumbered.{Renumbered}
@@ -80,11 +80,21 @@ pub record Untouched (t after : Table) (before filled : List ℕ) (call : Call) 
   pub refused : 0 < reply .number → (after ≡ t) × (filled ≡ before)
   pub idle : isChange call ≡ true → reply .value ≡ 0 → after ≡ t
 
--- "Any two outcomes that satisfy it are proved the same": number, values and buffers; "which state rows hold which states is free, and tables are
--- then the same up to renumbering".
-pub record Same (t u v : Table) (before x y : List ℕ) (call : Call) (r s : Reply) : Type 0 where
+-- Two outcomes of a call are the same: number, values and buffers; "which state rows hold which states is free, and tables are then the same up
+-- to renumbering".
+pub record Same (u v : Table) (x y : List ℕ) (r s : Reply) : Type 0 where
   pub replies : r ≡ s
   pub buffers : x ≡ y
   pub tables : Renumbered u v
+
+-- "Any two outcomes that satisfy it are proved the same."
+pub record Tight (t u v : Table) (before x y : List ℕ) (call : Call) (r s : Reply) : Type 0 where
+  pub same : Same u v x y r s
   pub first : Untouched t u before x call r
   pub second : Untouched t v before y call s
+
+-- Demand 3: "a change is refused for room exactly when the fewest states needed are more than the room", n for the lists that it would leave.
+pub record RoomDecides (t after : Table) (call : Call) (reply : Reply) (n : ℕ) : Type 0 where
+  pub refused-over : reply .number ≡ 11 → room t < n
+  pub over-refused : room t < n → reply .number ≡ 11
+  pub within-done : n ≤ room t → (reply .number ≡ 0) × (lists after ≡ rule (bookOf t) call .done .lists)

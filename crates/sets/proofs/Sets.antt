@@ -28,7 +28,7 @@ same-test test u v = go (same u v) refl
     go true e = rw (same-eq u v e)
     go false e = simp and-false
 
-member-keep : (test : Word → Bool) (u : Word) (l : Words) → member u (keep test l) ≡ (test u && member u l)
+pub member-keep : (test : Word → Bool) (u : Word) (l : Words) → member u (keep test l) ≡ (test u && member u l)
 unfolding member keep
 member-keep test u [] = rw and-false
 member-keep test u (v ∷ vs) = rw (member-cond, member-keep test u vs, same-test test u v, ← and-or-distrib-left)
