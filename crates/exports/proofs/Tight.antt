@@ -1,42 +1,44 @@
--- Any two outcomes at the C boundary that satisfy a promise return the same number, and leave the same letters and buffer, and tables that are
--- the same up to the order of their state rows; and a host takes the number and the value of the reply from what is returned. Assumes nothing.
-use Prim.Native.Nat.{ℕ, _/_, _%_, _<_}
+-- Any two outcomes at the C boundary that satisfy a promise return the same number, and are the same as two outcomes of the call are: what a host
+-- takes apart tells what was returned. Assumes nothing.
+use Prim.Native.Nat.{ℕ, _<_}
 use native.Mathlib.Omega.{arith}
-use mathlib.Core.Path.{_≡_, sym, _∙_, ap}
+use mathlib.Core.Path.{_≡_, ap, ap₂}
 use mathlib.Core.List.{List}
 use Rattle.model.specs.Call.{Call}
-use Rattle.model.specs.Call.Call.{next}
 use Rattle.rows.specs.Table.{Table}
-use Rattle.minimal.specs.Renumbered.{Renumbered}
-use Rattle.answers.specs.declared.cases.Answer.{Answer}
 use Rattle.answers.specs.declared.replies.Reply.{Reply}
-use Rattle.answers.specs.Replies.{answerReply}
-use Rattle.calls.proofs.Tight.{nth-tight}
-use Rattle.book.proofs.Tight.{promised-tight}
-use Rattle.exports.specs.Packed.{radix, packed, Packs, PacksNext, PacksNth}
+use Rattle.promises.specs.Promises.{Promised, Tight}
+use Rattle.promises.proofs.Tight.{promised-tight}
+use Rattle.exports.specs.Packed.{radix, packed, unpacked, unpackedNext}
 
--- BOOK_NUMBER and BOOK_VALUE of include/book.h
-pub packed-apart : (number value : ℕ) → value < radix → (packed number value / radix ≡ number) × (packed number value % radix ≡ value)
-packed-apart number value small = (omega arith, omega arith)
+-- what was packed is taken apart again
+pub packed-apart : (number value : ℕ) → value < radix → unpacked (packed number value) ≡ record { number = number; value = value; second = 0 }
+unfolding unpacked
+packed-apart number value small =
+    ap₂ (λ (n : ℕ) (v : ℕ). record { number = n; value = v; second = 0 }) (omega arith) (omega arith)
 
--- Two outcomes of a function of include/book.h other than next and nth.
-pub packs-tight : (t u v : Table) (call : Call) (r s : ℕ) → Packs t u call r → Packs t v call s → (r ≡ s) × Renumbered u v
-packs-tight t u v call r s p q =
-    let (same, renumbered) = promised-tight t u v call (p .reply) (q .reply) (p .promised) (q .promised) in
-    (p .packs ∙ ap (λ (x : Reply). packed (x .number) (x .value)) same ∙ sym (q .packs), renumbered)
+pub packed-apart-next : (letters number count : ℕ) → count < radix
+    → unpackedNext letters (packed number count) ≡ record { number = number; value = letters; second = count }
+unfolding unpackedNext
+packed-apart-next letters number count small =
+    ap₂ (λ (n : ℕ) (c : ℕ). record { number = n; value = letters; second = c }) (omega arith) (omega arith)
+
+-- Two outcomes of a function of include/book.h other than next.
+pub packs-tight : (t u v : Table) (before x y : List ℕ) (call : Call) (r s : ℕ) → Promised t u before x call (unpacked r)
+    → Promised t v before y call (unpacked s) → (r ≡ s) × Tight t u v before x y call (unpacked r) (unpacked s)
+unfolding unpacked
+packs-tight t u v before x y call r s p q =
+    let tight = promised-tight t u v before x y call (unpacked r) (unpacked s) p q in
+    let number = ap (λ (z : Reply). z .number) (tight .same .replies) in
+    let value = ap (λ (z : Reply). z .value) (tight .same .replies) in
+    (omega (arith, number, value), tight)
 
 -- Two outcomes of next: what is returned, and the letters.
-pub packs-next-tight : (t : Table) (m : ℕ) (prefix : List ℕ) (x y r s : ℕ) → PacksNext t m prefix x r → PacksNext t m prefix y s
-    → (r ≡ s) × (x ≡ y)
-packs-next-tight t m prefix x y r s p q =
-    let (same, _) = promised-tight t t t (next m prefix) (p .reply) (q .reply) (p .promised) (q .promised) in (
-      p .packs ∙ ap (λ (z : Reply). packed (z .number) (z .second)) same ∙ sym (q .packs),
-      p .set ∙ ap (λ (z : Reply). z .value) same ∙ sym (q .set),
-    )
-
--- Two outcomes of nth: what is returned, and the buffer.
-pub packs-nth-tight : (t : Table) (m n : ℕ) (before after other : List ℕ) (r s : ℕ) → PacksNth t m n before after r → PacksNth t m n before other s
-    → (r ≡ s) × (after ≡ other)
-packs-nth-tight t m n before after other r s p q =
-    let (same, buffers) = nth-tight t m n before after other (p .answer) (q .answer) (p .writes) (q .writes) in
-    (p .packs ∙ ap (λ (a : Answer). packed (answerReply a .number) (answerReply a .value)) same ∙ sym (q .packs), buffers)
+pub packs-next-tight : (t u v : Table) (before x y : List ℕ) (call : Call) (k l r s : ℕ) → Promised t u before x call (unpackedNext k r)
+    → Promised t v before y call (unpackedNext l s) → (r ≡ s) × (k ≡ l) × Tight t u v before x y call (unpackedNext k r) (unpackedNext l s)
+unfolding unpackedNext
+packs-next-tight t u v before x y call k l r s p q =
+    let tight = promised-tight t u v before x y call (unpackedNext k r) (unpackedNext l s) p q in
+    let number = ap (λ (z : Reply). z .number) (tight .same .replies) in
+    let count = ap (λ (z : Reply). z .second) (tight .same .replies) in
+    (omega (arith, number, count), ap (λ (z : Reply). z .value) (tight .same .replies), tight)

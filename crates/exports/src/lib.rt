@@ -1,14 +1,16 @@
-// The C boundary, for script hosts, tests and benchmarks: the thirteen calls under the names of
-// include/book.h. Each does one call and packs its reply into one number.
+// The C boundary, for script hosts, tests and benchmarks: the calls under the names of include/book.h. Each does
+// one call and packs its reply into one number, from which a host takes it again.
 use answers::Answer;
 use answers::Asked;
 use answers::next_reply;
 use answers::refusal_number;
-ghost use Prim.Native.Nat.{_<_};
 ghost use mathlib.Core.Path.{_≡_};
+ghost use mathlib.Core.List.{[]};
+ghost use lib.ListN.{length};
 ghost use Rattle.answers.specs.Replies.{answerReply, askReply};
-ghost use Rattle.model.specs.Call.Call.{empty, check, ask, add, remove, clear, load, combine, count, rank, used};
-ghost use Rattle.exports.specs.Packed.{radix, packed, Packs, PacksNext, PacksNth};
+ghost use Rattle.model.specs.Call.Call.{empty, check, ask, next, add, remove, clear, load, combine, count, rank, nth, used};
+ghost use Rattle.promises.specs.Promises.{Promised};
+ghost use Rattle.exports.specs.Packed.{packed, unpacked, unpackedNext};
 
 // 2 to the power 32.
 const RADIX: u64 = 4294967296;
@@ -21,8 +23,7 @@ fn packed(number: u32, value: u32) -> u64
 }
 
 fn packed_answer(a: Answer) -> u64
-    ensures packs { λ r. ⌜ r ≡ packed (answerReply a .number) (answerReply a .value) ⌝ }
-    ensures small { λ _. ⌜ answerReply a .value < radix ⌝ }
+    ensures { λ r. ⌜ unpacked r ≡ answerReply a ⌝ }
 {
     match a {
         Answer::Done(value) => packed(0, value),
@@ -31,8 +32,7 @@ fn packed_answer(a: Answer) -> u64
 }
 
 fn packed_ask(a: Asked) -> u64
-    ensures packs { λ r. ⌜ r ≡ packed (askReply a .number) (askReply a .value) ⌝ }
-    ensures small { λ _. ⌜ askReply a .value < radix ⌝ }
+    ensures { λ r. ⌜ unpacked r ≡ askReply a ⌝ }
 {
     match a {
         Asked::OnList => packed(0, 1),
@@ -43,21 +43,21 @@ fn packed_ask(a: Asked) -> u64
 
 #[no_mangle]
 pub extern "C" fn book_empty(table: &mut [u16]) -> u64
-    ensures { λ r. ⌜ Packs (now (table .entry)) (now (table .exit)) empty r ⌝ }
+    ensures { λ r. ⌜ Promised (now (table .entry)) (now (table .exit)) [] [] empty (unpacked r) ⌝ }
 {
     packed_answer(calls::empty(table))
 }
 
 #[no_mangle]
 pub extern "C" fn book_check(table: &[u16]) -> u64
-    ensures { λ r. ⌜ Packs (now (table .entry)) (now (table .entry)) check r ⌝ }
+    ensures { λ r. ⌜ Promised (now (table .entry)) (now (table .entry)) [] [] check (unpacked r) ⌝ }
 {
     packed_answer(calls::check(table))
 }
 
 #[no_mangle]
 pub extern "C" fn book_ask(table: &[u16], mission: u32, name: &[u8]) -> u64
-    ensures { λ r. ⌜ Packs (now (table .entry)) (now (table .entry)) (ask mission (now (name .entry))) r ⌝ }
+    ensures { λ r. ⌜ Promised (now (table .entry)) (now (table .entry)) [] [] (ask mission (now (name .entry))) (unpacked r) ⌝ }
 {
     packed_ask(calls::ask(table, mission, name))
 }
@@ -66,7 +66,7 @@ pub extern "C" fn book_ask(table: &[u16], mission: u32, name: &[u8]) -> u64
 // to a number of the caller's.
 #[no_mangle]
 pub extern "C" fn book_next(table: &[u16], mission: u32, prefix: &[u8], letters: &mut u64) -> u64
-    ensures { λ r. ⌜ PacksNext (now (table .entry)) mission (now (prefix .entry)) (now (letters .exit)) r ⌝ }
+    ensures { λ r. ⌜ Promised (now (table .entry)) (now (table .entry)) [] [] (next mission (now (prefix .entry))) (unpackedNext (now (letters .exit)) r) ⌝ }
 {
     let reply = next_reply(calls::next(table, mission, prefix));
     *letters = reply.value;
@@ -75,63 +75,63 @@ pub extern "C" fn book_next(table: &[u16], mission: u32, prefix: &[u8], letters:
 
 #[no_mangle]
 pub extern "C" fn book_add(table: &mut [u16], mission: u32, name: &[u8]) -> u64
-    ensures { λ r. ⌜ Packs (now (table .entry)) (now (table .exit)) (add mission (now (name .entry))) r ⌝ }
+    ensures { λ r. ⌜ Promised (now (table .entry)) (now (table .exit)) [] [] (add mission (now (name .entry))) (unpacked r) ⌝ }
 {
     packed_answer(changing::add(table, mission, name))
 }
 
 #[no_mangle]
 pub extern "C" fn book_remove(table: &mut [u16], mission: u32, name: &[u8]) -> u64
-    ensures { λ r. ⌜ Packs (now (table .entry)) (now (table .exit)) (remove mission (now (name .entry))) r ⌝ }
+    ensures { λ r. ⌜ Promised (now (table .entry)) (now (table .exit)) [] [] (remove mission (now (name .entry))) (unpacked r) ⌝ }
 {
     packed_answer(changing::remove(table, mission, name))
 }
 
 #[no_mangle]
 pub extern "C" fn book_clear(table: &mut [u16], mission: u32) -> u64
-    ensures { λ r. ⌜ Packs (now (table .entry)) (now (table .exit)) (clear mission) r ⌝ }
+    ensures { λ r. ⌜ Promised (now (table .entry)) (now (table .exit)) [] [] (clear mission) (unpacked r) ⌝ }
 {
     packed_answer(changing::clear(table, mission))
 }
 
 #[no_mangle]
 pub extern "C" fn book_load(table: &mut [u16], mission: u32, list: &[u8]) -> u64
-    ensures { λ r. ⌜ Packs (now (table .entry)) (now (table .exit)) (load mission (now (list .entry))) r ⌝ }
+    ensures { λ r. ⌜ Promised (now (table .entry)) (now (table .exit)) [] [] (load mission (now (list .entry))) (unpacked r) ⌝ }
 {
     packed_answer(filling::load(table, mission, list))
 }
 
 #[no_mangle]
 pub extern "C" fn book_combine(table: &mut [u16], operation: u32, a: u32, b: u32, c: u32) -> u64
-    ensures { λ r. ⌜ Packs (now (table .entry)) (now (table .exit)) (combine operation a b c) r ⌝ }
+    ensures { λ r. ⌜ Promised (now (table .entry)) (now (table .exit)) [] [] (combine operation a b c) (unpacked r) ⌝ }
 {
     packed_answer(filling::combine(table, operation, a, b, c))
 }
 
 #[no_mangle]
 pub extern "C" fn book_count(table: &[u16], mission: u32) -> u64
-    ensures { λ r. ⌜ Packs (now (table .entry)) (now (table .entry)) (count mission) r ⌝ }
+    ensures { λ r. ⌜ Promised (now (table .entry)) (now (table .entry)) [] [] (count mission) (unpacked r) ⌝ }
 {
     packed_answer(ranking::count(table, mission))
 }
 
 #[no_mangle]
 pub extern "C" fn book_rank(table: &[u16], mission: u32, name: &[u8]) -> u64
-    ensures { λ r. ⌜ Packs (now (table .entry)) (now (table .entry)) (rank mission (now (name .entry))) r ⌝ }
+    ensures { λ r. ⌜ Promised (now (table .entry)) (now (table .entry)) [] [] (rank mission (now (name .entry))) (unpacked r) ⌝ }
 {
     packed_answer(ranking::rank(table, mission, name))
 }
 
 #[no_mangle]
 pub extern "C" fn book_nth(table: &[u16], mission: u32, n: u32, buffer: &mut [u8]) -> u64
-    ensures { λ r. ⌜ PacksNth (now (table .entry)) mission n (now (buffer .entry)) (now (buffer .exit)) r ⌝ }
+    ensures { λ r. ⌜ Promised (now (table .entry)) (now (table .entry)) (now (buffer .entry)) (now (buffer .exit)) (nth mission n (length (now (buffer .entry)))) (unpacked r) ⌝ }
 {
     packed_answer(ranking::nth(table, mission, n, buffer))
 }
 
 #[no_mangle]
 pub extern "C" fn book_used(table: &[u16]) -> u64
-    ensures { λ r. ⌜ Packs (now (table .entry)) (now (table .entry)) used r ⌝ }
+    ensures { λ r. ⌜ Promised (now (table .entry)) (now (table .entry)) [] [] used (unpacked r) ⌝ }
 {
     packed_answer(calls::used(table))
 }
