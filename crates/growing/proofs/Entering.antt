@@ -12,7 +12,7 @@ use lib.ListN.{getD}
 use Rattle.letters.specs.Letters.{letters}
 use Rattle.rows.specs.Table.{Table, width, rowCount, mark, target, inUse}
 use Rattle.rows.specs.Tidy.{Used}
-use Rattle.rows.proofs.Facts.{used-in-use}
+use Rattle.rows.proofs.Facts.{used-same, used-in-use}
 use Rattle.chains.proofs.Chains.{chained-of}
 use Rattle.index.specs.Buckets.{rowKey, bucket}
 use Rattle.index.specs.Index.{Indexed, Entering}
@@ -88,7 +88,7 @@ module _ (t : Table) {index : List ℕ} (indexed : Indexed t index) where
           used = row-used;
           chained = rw rows (chained-of (λ q _ _. same-bucket q) (indexed .chained));
           keys = λ q used other.
-              let old : Used t q = record { positive = used .positive; inside = omega (arith, used .inside); marked = omega (arith, used .marked, same-mark q other) } in
+              let old : Used t q = used-same (sym (written .long)) (sym (same-mark q other)) used in
               indexed .keys .at q (old .inside) old ∙ sym (same-row-key q other);
           targets = λ y h. omega (arith, written .targeted y h, below y h);
           arcs = λ s above h.

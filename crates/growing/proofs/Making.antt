@@ -28,7 +28,7 @@ use Rattle.rows.specs.Words.{words}
 use Rattle.rows.specs.Rules.{above}
 use Rattle.rows.specs.Tidy.{Used, Arc, Tidy}
 use Rattle.rows.specs.Growth.{Grown, Useful}
-use Rattle.rows.proofs.Facts.{no-row, in-use-used, used-in-use, named-cases, named-inside}
+use Rattle.rows.proofs.Facts.{no-row, used-same, in-use-used, used-in-use, named-cases, named-inside}
 use Rattle.rows.proofs.Words.{fan-empty, fan-word, fan-plain, words-plain, words-none, empty-word, words-target, has-word, height-short}
 use Rattle.rows.proofs.Growth.{grown-self, mark-kept, height-kept, target-kept, number39-kept, used-kept, words-kept}
 use Rattle.growing.specs.declared.makes.Made.the-variants.{Row, Full}
@@ -163,7 +163,7 @@ module _ (t : Table) (k : ℕ) (ts : List ℕ) (tidy : Tidy t) (fitting : Fittin
           | yes e ↦ inl e
           | no e ↦
               let same : mark u s ≡ mark t s = written .others (s * width) (λ d. e (omega arith)) in
-              inr (record { positive = v .positive; inside = omega (arith, v .inside); marked = omega (arith, v .marked) })
+              inr (used-same (sym (written .long)) (sym same) v)
         ]
 
     old-arc : (s : ℕ) → Used t s → (x : ℕ) → Arc u s x → Arc t s x

@@ -1,4 +1,5 @@
--- A test passes at all numbers below n exactly if it passes at each of them. Assumes nothing.
+-- A test passes at all numbers below n exactly if it passes at each of them. And what is put together from what the numbers below n give, one
+-- after the other, is the same where they give the same: one law, whatever the way of putting together. Assumes nothing.
 use Prim.Native.Nat.{ℕ, zero, suc, _<_}
 use native.Mathlib.Omega.{arith}
 use native.Mathlib.Decide.{ℕ-discrete}
@@ -22,3 +23,9 @@ module _ (test : ℕ → Bool) where
 
   pub not-all-below : (n i : ℕ) → i < n → test i ≡ false → allBelow n test ≡ false
   not-all-below n i h e = by-test (allBelow n test) (λ all. absurd (false≢true (sym e ∙ all-below n all i h))) (λ not-all. not-all)
+
+module _ {A B : Type 0} (over : ℕ → (ℕ → A) → B) (none : (f g : ℕ → A) → over 0 f ≡ over 0 g)
+    (more : (n : ℕ) (f g : ℕ → A) → over n f ≡ over n g → f n ≡ g n → over (suc n) f ≡ over (suc n) g) where
+  pub agree-below : (n : ℕ) (f g : ℕ → A) → ((i : ℕ) → i < n → f i ≡ g i) → over n f ≡ over n g
+  agree-below zero f g e = none f g
+  agree-below (suc n) f g e = more n f g (agree-below n f g (λ i h. e i (omega arith))) (e n (omega arith))

@@ -11,6 +11,7 @@ use lib.Pow.{pow-pos}
 use lib.Count.{ones, onesIn, ones-cat, trailingZeros}
 use borrow.Author.Tests.{eq-eqb, ne-eqb}
 use Rattle.letters.specs.LetterSet.{flag, sumOf, countOf}
+use Rattle.letters.proofs.Below.{agree-below}
 
 pub flag-le : (b : Bool) → flag b ≤ 1
 flag-le true = omega arith
@@ -40,12 +41,12 @@ ones-sum (suc n) test = ones-cat n (flag (test n)) (sumOf n test) (sum-lt n test
 -- tests that agree below n have the same set
 pub sum-agree : (n : ℕ) (f g : ℕ → Bool) → ((y : ℕ) → y < n → f y ≡ g y) → sumOf n f ≡ sumOf n g
 unfolding sumOf
-sum-agree zero f g e = refl
-sum-agree (suc n) f g e = rw (e n (omega arith), sum-agree n f g (λ y h. e y (omega arith)))
+sum-agree = agree-below sumOf (λ f g. refl) (λ n f g rest last. rw (rest, last))
 
 -- and as many letters
 pub count-agree : (n : ℕ) (f g : ℕ → Bool) → ((y : ℕ) → y < n → f y ≡ g y) → countOf n f ≡ countOf n g
-count-agree n f g e = sym (ones-sum n f) ∙ rw (sum-agree n f g e) (ones-sum n g)
+unfolding countOf
+count-agree = agree-below countOf (λ f g. refl) (λ n f g rest last. rw (rest, last))
 
 -- a letter of the set counts its power
 pub letter-le-sum : (n : ℕ) (test : ℕ → Bool) (x : ℕ) → x < n → test x ≡ true → 2 ^ x ≤ sumOf n test

@@ -1,27 +1,23 @@
 -- What a renumbering carries, whatever numbers the two tables hold. A number is a row exactly if the number that it is carried to is one. So a
--- walk goes the same way and ends where the other's end is carried to, and ask and next say the same; and the words from there are the same,
--- by recursion on their letters. No two numbers are carried to the same; so a renumbering goes back, and another goes on from it.
--- Assumes nothing.
-use Prim.Native.Nat.{ℕ, zero, suc, _<_}
+-- walk goes the same way and ends where the other's end is carried to, ask and next say the same, and the words are the same. No two numbers
+-- are carried to the same; so a renumbering goes back, and another goes on from it. Assumes nothing.
+use Prim.Native.Nat.{ℕ, _<_}
 use native.Mathlib.Omega.{arith}
 use mathlib.Core.Path.{_≡_, refl, sym, _∙_, ap}
 use mathlib.Core.Bool.{true, false, cond}
-use mathlib.Core.List.{[], _∷_, _++_}
-use lib.Dec.{eqb}
+use mathlib.Core.List.{[], _∷_}
 use lib.ListN.{getD, length}
 use lib.Seq.{ext-getD}
 use Rattle.letters.specs.Letters.{letters}
 use Rattle.letters.specs.Words.{Word, Spelled}
-use Rattle.letters.specs.Names.{longest}
 use Rattle.letters.proofs.Tests.{by-test}
-use Rattle.sets.specs.Sets.{Words}
-use Rattle.sets.proofs.Below.{over-agree}
 use Rattle.model.specs.Lists.{missions}
 use Rattle.rows.specs.Table.{Table, isRow, start, mark, height, target, number39, ends}
 use Rattle.rows.specs.Walk.{walkFrom, accepts, hasArc, follows}
-use Rattle.rows.specs.Words.{shortWords, words, lists}
+use Rattle.rows.specs.Words.{words, lists}
 use Rattle.rows.proofs.Walk.{walk-none, walk-empty, walk-step}
 use Rattle.rows.proofs.Books.{lists-sixteen, list-names}
+use Rattle.rows.proofs.Growth.{words-carried}
 use Rattle.minimal.specs.Renumbered.{Renumbered}
 
 module _ (t u : Table) (by : Renumbered t u) where
@@ -60,19 +56,9 @@ module _ (t u : Table) (by : Renumbered t u) where
   pub to-follows : (w : Word) → Spelled w → (n x : ℕ) → x < letters → follows u w (by .to n) x ≡ follows t w n x
   to-follows w s n x h = rw (to-walk w s n) (to-arc (walkFrom t w n .row) x h)
 
-  to-short : (most n : ℕ) → shortWords most u (to n) ≡ shortWords most t n
-  unfolding shortWords
-  to-short zero n = refl
-  to-short (suc most) n =
-      by-test (isRow t n)
-      (λ row.
-      rw (to-is-row n, row, by .marks n row)
-      (ap (λ (l : Words). cond (eqb (mark t n) 2) ([] ∷ []) [] ++ l)
-      (over-agree letters _ _ (λ x h. rw (by .targets n x row h, to-short most (target t n x))))))
-      (λ out. rw (to-is-row n, out))
-
   pub to-words : (n : ℕ) → words u (by .to n) ≡ words t n
-  to-words n = to-short (suc longest) n
+  to-words n =
+      words-carried t u (λ n. Unit {0}) (by .to) (λ n _. to-is-row n) (λ n _. by .marks n) (λ n x _ row h. (tt, by .targets n x row h)) n tt
 
   pub to-lists : lists u ≡ lists t
   to-lists = ext-getD [] (lists u) (lists t) (lists-sixteen u ∙ sym (lists-sixteen t)) names-same

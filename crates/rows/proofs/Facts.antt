@@ -8,6 +8,7 @@ use mathlib.Core.Path.{_≡_}
 use mathlib.Core.Logic.{_⊎_, inl, inr}
 use mathlib.Core.Bool.{true, false, and-eq-true-iff}
 use lib.Dec.{ltb}
+use lib.ListN.{length}
 use borrow.Author.Tests.{ltb-true, lt-ltb, ne-eqb}
 use Rattle.letters.specs.Letters.{letters}
 use Rattle.rows.specs.Table.{Table, rowCount, isRow, mark, height, target, inUse}
@@ -27,6 +28,9 @@ no-row t n e = rw e
 
 pub used-row : {t : Table} {r : ℕ} → Used t r → isRow t r ≡ true
 used-row {t} {r} u = inside-row t r (u .positive) (u .inside)
+
+pub used-same : {t u : Table} {r : ℕ} → length u ≡ length t → mark u r ≡ mark t r → Used t r → Used u r
+used-same long same p = record { positive = p .positive; inside = rw long (p .inside); marked = rw same (p .marked) }
 
 pub in-use-used : (t : Table) (r : ℕ) → inUse t r ≡ true → Used t r
 in-use-used t r e =

@@ -1,50 +1,58 @@
 -- The laws of growth: a grown table keeps the rows that are in use. What is read from a row, its words and the rows that it reaches, is read
 -- from the row itself and from its targets; so two tables that agree in some rows and in the targets of these, and so on, read the same from
--- them, by induction over the fuel. In a tidy table the rows in use are such rows, and the starts are among them. Assumes nothing.
+-- them, by induction over the fuel, and the words also where the rows stand elsewhere. In a tidy table the rows in use are such rows, and the starts are among them. Assumes nothing.
 use Prim.Native.Nat.{ℕ, zero, suc, _+_, _*_, _<_}
 use native.Mathlib.Omega.{arith}
-use mathlib.Core.Path.{_≡_, refl, _∙_}
+use mathlib.Core.Path.{_≡_, refl, _∙_, ap}
 use mathlib.Core.Bool.{Bool, true, false, cond, _&&_, _||_}
-use mathlib.Core.List.{[], _∷_}
+use mathlib.Core.List.{[], _∷_, _++_}
 use lib.Dec.{eqb}
 use lib.ListN.{length, getD}
 use Rattle.letters.specs.Each.{some}
 use Rattle.letters.specs.Letters.{letters}
 use Rattle.letters.specs.Names.{longest}
+use Rattle.letters.proofs.Tests.{by-test}
 use Rattle.sets.specs.Below.{someBelow}
+use Rattle.sets.specs.Sets.{Words}
 use Rattle.sets.proofs.Membership.{some-agree, map-agree}
 use Rattle.sets.proofs.Below.{over-agree, below-agree}
 use Rattle.model.specs.Lists.{missions}
 use Rattle.rows.specs.Table.{Table, width, isRow, start, starts, mark, height, target, number39}
-use Rattle.rows.specs.Words.{behind, rowWords, shortWords, words, lists}
+use Rattle.rows.specs.Words.{shortWords, words, lists}
 use Rattle.rows.specs.Tidy.{Used, Named, Tidy}
 use Rattle.rows.specs.Reach.{reachesIn, reaches, reached}
 use Rattle.rows.specs.Growth.{Grown}
-use Rattle.rows.proofs.Facts.{named-row, target-named}
+use Rattle.rows.proofs.Facts.{used-same, named-row, target-named}
 use Rattle.rows.proofs.Cells.{same-mark, same-height, same-target, same-number39}
 use Rattle.rows.proofs.Books.{starts-named}
 
--- tables of one length that agree in these rows, to which the targets of each belong
+-- a map of the rows carries these rows of t, to which the targets of each belong, to rows of u with the same marks and with the targets
+-- carried along
+module _ (t u : Table) (These : ℕ → Type 0) (to : ℕ → ℕ) (rows : (n : ℕ) → These n → isRow u (to n) ≡ isRow t n)
+    (marks : (n : ℕ) → These n → isRow t n ≡ true → mark u (to n) ≡ mark t n)
+    (targets : (n x : ℕ) → These n → isRow t n ≡ true → x < letters → These (target t n x) × (target u (to n) x ≡ to (target t n x))) where
+  short-carried : (most n : ℕ) → These n → shortWords most u (to n) ≡ shortWords most t n
+  unfolding shortWords
+  short-carried zero n p = refl
+  short-carried (suc most) n p =
+      by-test (isRow t n)
+      (λ row.
+      rw (rows n p, row, marks n p row)
+      (ap (λ (l : Words). cond (eqb (mark t n) 2) ([] ∷ []) [] ++ l)
+      (over-agree letters _ _ (λ x h. let (q, e) = targets n x p row h in rw (e, short-carried most (target t n x) q)))))
+      (λ out. rw (rows n p, out))
+
+  pub words-carried : (n : ℕ) → These n → words u (to n) ≡ words t n
+  words-carried = short-carried (suc longest)
+
+-- tables of one length that agree in these rows
 module _ (t u : Table) (These : ℕ → Type 0) (long : length u ≡ length t)
     (next : (n x : ℕ) → These n → isRow t n ≡ true → x < letters → These (target t n x))
     (cells : (n i : ℕ) → These n → isRow t n ≡ true → i < width → getD u (n * width + i) 0 ≡ getD t (n * width + i) 0) where
-  short-same : (most n : ℕ) → These n → shortWords most u n ≡ shortWords most t n
-  unfolding shortWords
-  short-same zero n p = refl
-  short-same (suc most) n p = rw long (go (short-same most) (isRow t n) refl)
-    where
-      go : ((s : ℕ) → These s → shortWords most u s ≡ shortWords most t s) → (b : Bool) → isRow t n ≡ b
-          → cond b (rowWords u n (λ s. shortWords most u s)) [] ≡ cond b (rowWords t n (λ s. shortWords most t s)) []
-      go rest true row =
-          rw (
-            same-mark t u n (λ i. cells n i p row),
-            over-agree letters (λ x. behind x (shortWords most u (target u n x))) (λ x. behind x (shortWords most t (target t n x)))
-                (λ x h. rw (same-target t u n (λ i. cells n i p row) x h, rest (target t n x) (next n x p row h))),
-          )
-      go rest false row = refl
-
   pub words-same : (n : ℕ) → These n → words u n ≡ words t n
-  words-same = short-same (suc longest)
+  words-same =
+      words-carried t u These (λ n. n) (λ n p. rw long) (λ n p row. same-mark t u n (λ i. cells n i p row))
+      (λ n x p row h. (next n x p row h, same-target t u n (λ i. cells n i p row) x h))
 
   within-same : (most n s : ℕ) → These n → reachesIn most u n s ≡ reachesIn most t n s
   unfolding reachesIn
@@ -80,7 +88,7 @@ module _ (t u : Table) (grown : Grown t u) where
   number39-kept r p = same-number39 t u r (λ i. grown .kept r i p)
 
   pub used-kept : (r : ℕ) → Used t r → Used u r
-  used-kept r p = record { positive = p .positive; inside = rw (grown .long) (p .inside); marked = rw (mark-kept r p) (p .marked) }
+  used-kept r p = used-same (grown .long) (mark-kept r p) p
 
   pub named-kept : (n : ℕ) → Named t n → Named u n
   named-kept n named some = used-kept n (named some)

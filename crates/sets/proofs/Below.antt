@@ -16,6 +16,7 @@ use lib.Seq.{getD-at, getD-append-add}
 use borrow.Author.Tests.{ltb-true, eqb-true, lt-ltb, eq-eqb}
 use Rattle.letters.specs.Each.{Each}
 use Rattle.letters.specs.Words.{Word, before}
+use Rattle.letters.proofs.Below.{agree-below}
 use Rattle.sets.specs.Below.{someBelow, greatest, total, over, each}
 use Rattle.sets.specs.Sets.{Words, member, Rising, keep}
 use Rattle.sets.proofs.Sets.{member-append, rising-append}
@@ -103,19 +104,16 @@ module _ (given : ℕ → ℕ) where
 -- what agrees below n
 pub below-agree : (n : ℕ) (f g : ℕ → Bool) → ((i : ℕ) → i < n → f i ≡ g i) → someBelow n f ≡ someBelow n g
 unfolding someBelow
-below-agree zero f g e = refl
-below-agree (suc n) f g e = rw (below-agree n f g (λ i h. e i (omega arith)), e n (omega arith))
+below-agree = agree-below someBelow (λ f g. refl) (λ n f g rest last. rw (rest, last))
 
 pub over-agree : {A : Type 0} (n : ℕ) (f g : ℕ → List A) → ((i : ℕ) → i < n → f i ≡ g i) → over n f ≡ over n g
 unfolding over
-over-agree zero f g e = refl
-over-agree (suc n) f g e = rw (over-agree n f g (λ i h. e i (omega arith)), e n (omega arith))
+over-agree = agree-below over (λ f g. refl) (λ n f g rest last. rw (rest, last))
 
 -- sums, and the list of what all of them give
 pub total-agree : (n : ℕ) (f g : ℕ → ℕ) → ((i : ℕ) → i < n → f i ≡ g i) → total n f ≡ total n g
 unfolding total
-total-agree zero f g e = refl
-total-agree (suc n) f g e = rw (total-agree n f g (λ i h. e i (omega arith)), e n (omega arith))
+total-agree = agree-below total (λ f g. refl) (λ n f g rest last. rw (rest, last))
 
 -- where only one number gives another, the sums differ by that one
 pub total-but-one : (n i : ℕ) (f g : ℕ → ℕ) → i < n → ((j : ℕ) → (j ≡ i → ⊥) → f j ≡ g j) → total n f + g i ≡ total n g + f i

@@ -30,7 +30,7 @@ use Rattle.rows.specs.Rules.{sound}
 use Rattle.rows.specs.Tidy.{Used, Named, Arc, Tidy}
 use Rattle.rows.specs.Reach.{reachedFrom, reached}
 use Rattle.rows.specs.Growth.{Grown}
-use Rattle.rows.proofs.Facts.{row-inside, used-in-use}
+use Rattle.rows.proofs.Facts.{used-same, row-inside, used-in-use}
 use Rattle.rows.proofs.Cells.{same-mark, same-target}
 use Rattle.rows.proofs.Rules.{sound-facts}
 use Rattle.rows.proofs.Words.{words-none, mark-word}
@@ -61,20 +61,10 @@ module _ (t : Table) (m r : ℕ) (below : m < missions) where
   start-mark s some = same-mark t (withStart t m r) s (λ i h. start-cell s i some)
 
   used-before : (s : ℕ) → Used (withStart t m r) s → Used t s
-  used-before s p =
-      record {
-        positive = p .positive;
-        inside = rw start-long at (p .inside);
-        marked = rw (start-mark s (p .positive)) at (p .marked);
-      }
+  used-before s p = used-same (sym start-long) (sym (start-mark s (p .positive))) p
 
   used-after : (s : ℕ) → Used t s → Used (withStart t m r) s
-  used-after s p =
-      record {
-        positive = p .positive;
-        inside = rw start-long (p .inside);
-        marked = rw (start-mark s (p .positive)) (p .marked);
-      }
+  used-after s p = used-same start-long (start-mark s (p .positive)) p
 
   start-part : Tidy t → Part t (withStart t m r)
   start-part tidy =

@@ -25,7 +25,7 @@ use Rattle.rows.specs.Rules.{sound}
 use Rattle.rows.specs.Tidy.{Used, Arc, Tidy, Pointed, Sound}
 use Rattle.rows.specs.Reach.{reached, onlyRows, swept}
 use Rattle.rows.specs.Growth.{Grown}
-use Rattle.rows.proofs.Facts.{in-use-used, used-in-use}
+use Rattle.rows.proofs.Facts.{used-same, in-use-used, used-in-use}
 use Rattle.rows.proofs.Cells.{same-mark}
 use Rattle.rows.proofs.Rules.{sound-facts, facts-sound}
 use Rattle.rows.proofs.Reach.{reached-root, reached-arc, reached-all, reached-used}
@@ -84,13 +84,7 @@ module _ (t : Table) (tidy : Tidy t) where
           absurd (omega (arith, p .marked))
 
   reached-swept : (r : ℕ) → Reached r → Used (swept t) r
-  reached-swept r e =
-      let p = reach-used r e in
-      record {
-        positive = p .positive;
-        inside = rw (only-length t (λ r. reached t r)) (p .inside);
-        marked = rw (same-mark t (swept t) r (λ i. swept-cell r i e)) (p .marked);
-      }
+  reached-swept r e = used-same (only-length t (λ r. reached t r)) (same-mark t (swept t) r (λ i. swept-cell r i e)) (reach-used r e)
 
   target-reached : (r x : ℕ) → Reached r → Arc t r x → Used (swept t) (target t r x)
   target-reached r x e a = reached-swept (target t r x) (reached-arc t tidy (starts t) (starts-named t tidy) r x e a)

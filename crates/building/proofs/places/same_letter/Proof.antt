@@ -1,6 +1,5 @@
 -- `same_letter` meets its promise: one byte is one letter. Assumes nothing.
-use Prim.Native.Nat.{ℕ}
-use mathlib.Core.Path.{_≡_, refl, sym, _∙_}
+use mathlib.Core.Path.{sym}
 use borrow.Author.Needs.{needs}
 use borrow.Author.Tests.{eq-eqb}
 use Rattle.letters.specs.Letters.{letter}
