@@ -13,7 +13,7 @@ use Rattle.calls.proofs.Tight.{answers-tight, empty-tight, ask-tight, next-tigh
 use Rattle.changing.specs.Promises.{Changes}
 use Rattle.changing.proofs.Tight.{add-tight, remove-tight, clear-tight}
 use Rattle.filling.proofs.Tight.{load-tight, combine-tight}
-use Rattle.book.specs.Promised.{Changing, Reading, Promised}
+use Rattle.book.specs.Promised.{Changing, Reading, Promised, replyTo}
 
 -- two outcomes of a call, by what they reply and the tables that they leave
 abbrev Same : Reply → Reply → Table → Table → Type 0
@@ -50,3 +50,19 @@ promised-tight t u v (rank m name) r s p q = reading t u v r s (rank m name) p q
 promised-tight t u v (nth m n size) r s (a, before, after, p, long, e, x) (b, before', after', q, long', f, y) =
     (e ∙ ap answerReply (answers-tight t (nth m n size) a b (rw long at (p .answers)) (rw long' at (q .answers))) ∙ sym f, equal-tables u v (x ∙ sym y))
 promised-tight t u v used r s p q = reading t u v r s used p q
+
+-- What a call replies is told by the table before it.
+pub promised-reply : (t after : Table) (call : Call) (reply : Reply) → Promised t after call reply → reply ≡ replyTo t call
+promised-reply t after empty reply (a, p, e) = e ∙ p .answers
+promised-reply t after check reply (a, p, e, same) = e ∙ p
+promised-reply t after (ask m name) reply (a, p, e, same) = e ∙ p .walks
+promised-reply t after (next m prefix) reply (a, p, e, same) = e ∙ p .walks
+promised-reply t after (add m name) reply (a, p, e) = e ∙ p .answers
+promised-reply t after (remove m name) reply (a, p, e) = e ∙ p .answers
+promised-reply t after (clear m) reply (a, p, e) = e ∙ p .answers
+promised-reply t after (load m list) reply (a, p, e) = e ∙ p .answers
+promised-reply t after (combine op x y z) reply (a, p, e) = e ∙ p .answers
+promised-reply t after (count m) reply (a, p, e, same) = e ∙ p
+promised-reply t after (rank m name) reply (a, p, e, same) = e ∙ p
+promised-reply t after (nth m n size) reply (a, before, after', p, long, e, same) = e ∙ rw long at (p .answers)
+promised-reply t after used reply (a, p, e, same) = e ∙ p

@@ -1,7 +1,7 @@
--- What is proved of the lines. Assumes nothing.
+-- What is proved of the lines, and of the program's steps. Assumes nothing.
 mod Headed
+mod Choices
+mod Stages
+mod Answered
 pub mod Following
 pub mod Listing
-pub mod Sessions
-pub mod Inside
-pub mod Tight

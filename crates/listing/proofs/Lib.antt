@@ -4,4 +4,3 @@ pub mod Steps
 pub mod Spelling
 pub mod Listed
 pub mod Fitting
-pub mod Tight

@@ -1,8 +1,8 @@
--- `make` meets its promise: in each branch the kind is known, and the call's own promise is the one asked for. Assumes nothing.
+-- `call` meets its promise: in each branch the kind is known, and the call's own promise is the one asked for. Assumes nothing.
 use mathlib.Core.Path.{refl}
 use borrow.Author.Needs.{needs}
-use Rattle.lines.proofs.replies.make.Statement.{statement}
-use Rattle.lines.proofs.replies.make.Tie as tie
+use Rattle.lines.proofs.replies.call.Statement.{statement}
+use Rattle.lines.proofs.replies.call.Tie as tie
 
 enum-told : tie.Need-enum-told
 enum-told c = search needs
@@ -64,8 +64,8 @@ same-length-4 c = search needs
 returns-4 : tie.Need-returns-4
 returns-4 c = rw (c .before .before .before .enum-told4 .given .1) (c .before .count .result, c .before .count .ensures, c .answer-reply3 .ensures, refl)
 
-pub make-spec : {M : Type 1} → statement M
-make-spec =
+pub call-spec : {M : Type 1} → statement M
+call-spec =
     tie.close
     (tie.spec
     enum-told
