@@ -1,21 +1,22 @@
 -- What is known at each stage of a step, by the tests that led to it, and what is done there. Assumes nothing.
 use Prim.Native.Nat.{ℕ, _+_, _≤_, _<_}
 use native.Mathlib.Omega.{arith}
-use mathlib.Core.Path.{_≡_, refl, subst}
+use mathlib.Core.Path.{_≡_, refl, sym, _∙_, ap, subst}
 use mathlib.Core.Bool.{Bool, true, false, not, _&&_, and-eq-true-iff}
 use mathlib.Core.List.{List, [], _∷_}
 use borrow.Author.Tests.{eqb-true, eqb-false, leb-true, leb-false, not-true}
 use lib.Dec.{eqb, leb}
-use lib.ListN.{length}
+use lib.ListN.{length, take}
 use Rattle.sets.specs.Sets.{Words}
 use Rattle.sets.specs.Cut.{mostNames}
 use Rattle.rows.specs.Table.{Table, lengthOk}
 use Rattle.listing.specs.declared.pieces.Piece.{Piece}
 use Rattle.listing.specs.Pieces.{lines, Written}
+use Rattle.printing.proofs.Buffers.{overlaid-long, overlaid-take}
 use Rattle.lines.specs.declared.steps.Place.{Place}
 use Rattle.lines.specs.declared.steps.Stage.{Stage}
 use Rattle.lines.specs.declared.steps.Stage.the-variants.{Over, Long, First, Line, Names}
-use Rattle.lines.specs.Steps.{deskNumbers, mostInput, mostOutput, nextLine, nextNames, isPlace, ready, stageOf, nextPiece, Does}
+use Rattle.lines.specs.Steps.{deskNumbers, mostInput, mostOutput, nextLine, nextNames, isPlace, ready, stageOf, nextPiece, stageText, stageNext, stepText, Does, Steps}
 use Rattle.lines.proofs.Choices.{by-choice}
 
 -- a step can be taken
@@ -130,3 +131,27 @@ module _ (t : Table) (input : List ℕ) (place : Place) (before filled : List �
         buffer = p .buffer;
         table = refl;
       }
+
+-- so many bytes are to be written as the text has, and they stand at the buffer's front
+names-bytes : (input : List ℕ) (place : Place) (l : Words) → nextNames input place l .bytes ≡ length (lines l)
+unfolding lines
+names-bytes input place [] = refl
+names-bytes input place (w ∷ l) = refl
+
+stage-bytes : (t : Table) (input : List ℕ) (place : Place) (size : ℕ) (stage : Stage)
+    → stageNext t input place size stage .bytes ≡ length (stageText t input place size stage)
+stage-bytes t input place size Over = refl
+stage-bytes t input place size Long = refl
+stage-bytes t input place size First = refl
+stage-bytes t input place size Line = refl
+stage-bytes t input place size Names = names-bytes input place (nextPiece t input place size)
+
+module _ {t after : Table} {input : List ℕ} {place : Place} {before filled : List ℕ} {next : Place} (p : Steps t after input place before filled next) where
+  step-bytes : next .bytes ≡ length (stepText t input place (length before))
+  step-bytes = ap (λ (q : Place). q .bytes) (p .next) ∙ stage-bytes t input place (length before) (stageOf t input place (length before))
+
+  pub step-written : take (next .bytes) filled ≡ stepText t input place (length before)
+  step-written = rw (p .buffer) (overlaid-take (next .bytes) (stepText t input place (length before)) before (sym step-bytes))
+
+  pub step-inside : next .bytes ≤ length filled
+  step-inside = rw (step-bytes, p .buffer) (overlaid-long (stepText t input place (length before)) before)

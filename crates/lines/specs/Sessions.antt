@@ -1,5 +1,5 @@
 -- What is printed for a whole input, by sixteen plain sets, and by a program that takes step after step. Assumes nothing.
-use Prim.Native.Nat.{ℕ, suc, _≤_}
+use Prim.Native.Nat.{ℕ, suc, _+_, _≤_}
 use mathlib.Core.Path.{_≡_}
 use mathlib.Core.Bool.{true, cond}
 use mathlib.Core.List.{List, [], _∷_, _++_}
@@ -36,6 +36,10 @@ printed room ls n (line ∷ more) =
 -- "(more: it prints only `! long`)". "A last line without an end is read as if it had one. There is no header."
 unfoldable pub prints : List ℕ → List ℕ
 prints input = cond (leb (length input) mostInput) (printed deskRoom emptyLists 1 (linesOf input)) tooLong
+
+-- so many bytes of the input are read: one more than may be tells that there are more
+abbrev pub inputSize : ℕ
+inputSize = mostInput + 1
 
 -- a step that was taken: the buffer before it and after it, the table after it, and where the program then stood
 pub record Step : Type 0 where
