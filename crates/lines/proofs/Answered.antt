@@ -1,12 +1,12 @@
 -- A line that asks for a call is answered by what the call replies, which the table before it tells. Assumes nothing.
 use Prim.Native.Nat.{ℕ}
-use mathlib.Core.Path.{_≡_, sym, _∙_}
+use mathlib.Core.Path.{_≡_, _∙_}
 use mathlib.Core.List.{List}
 use lib.ListN.{length}
 use Rattle.model.specs.Call.{overlaid}
 use Rattle.rows.specs.Table.{Table}
 use Rattle.answers.specs.declared.replies.Reply.{Reply}
-use Rattle.book.specs.Promised.{Promised, replyTo}
+use Rattle.book.specs.Promised.{Promised}
 use Rattle.book.proofs.Tight.{promised-reply}
 use Rattle.printing.specs.Printed.{answerLine}
 use Rattle.lines.specs.declared.requests.Kind.{Kind}

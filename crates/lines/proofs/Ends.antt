@@ -2,7 +2,7 @@
 use Prim.Native.Nat.{ℕ, suc, _+_, _*_, _-_, _<_}
 use native.Mathlib.Omega.{arith}
 use mathlib.Core.Path.{_≡_, refl, _∙_, ap}
-use mathlib.Core.Bool.{true, false, cond}
+use mathlib.Core.Bool.{false, cond}
 use mathlib.Core.List.{List, [], _∷_}
 use borrow.Author.Tests.{ne-eqb}
 use lib.Dec.{eqb}
@@ -13,12 +13,11 @@ use Rattle.sets.specs.Cut.{mostNames}
 use Rattle.rows.specs.Table.{Table}
 use Rattle.listing.specs.Pieces.{lines}
 use Rattle.lines.specs.declared.steps.Place.{Place}
-use Rattle.lines.specs.declared.steps.Stage.{Stage}
-use Rattle.lines.specs.declared.steps.Stage.the-variants.{Over, Long, First, Line, Names}
+use Rattle.lines.specs.declared.steps.Stage.the-variants.{First, Line}
 use Rattle.lines.specs.Promises.{saidTo}
 use Rattle.lines.specs.Steps.{overAfter, lineAt, nextNames, nextPiece, Does, Steps}
 use Rattle.lines.proofs.Following.{following-inside}
-use Rattle.lines.proofs.Stages.{Ready, Lines, by-stage}
+use Rattle.lines.proofs.Stages.{Lines, by-stage}
 
 -- so many steps at most are taken at a line
 abbrev lineSteps : ℕ

@@ -2,8 +2,10 @@
 mod Headed
 mod Choices
 mod Answered
-pub mod Following
+mod Following
 pub mod Stages
+mod Kept
+mod Places
 pub mod Sessions
 pub mod Ends
 pub mod Tight

@@ -1,128 +1,37 @@
 -- Step after step, on any table of the desk's length, what is written is what sixteen plain sets print. By induction over the steps: at every
 -- place it is known what is left to print, each step writes the front of it, and the next place has the rest. A line's call keeps a sound book,
 -- and on a sound book it is the model's; the pieces of a list go on where the one before them ended. Assumes nothing.
-use Prim.Native.Nat.{ℕ, suc, _+_, _-_, _≤_, _<_}
+use Prim.Native.Nat.{ℕ, _+_, _-_, _≤_, _<_}
 use native.Mathlib.Numerals.{add-one}
 use native.Mathlib.Omega.{arith}
 use native.Mathlib.Decide.{decLt}
 use mathlib.Core.Path.{_≡_, refl, sym, _∙_, ap, ap₂}
-use mathlib.Core.Bool.{true, false, not, cond}
+use mathlib.Core.Bool.{false}
 use mathlib.Core.List.{List, [], _∷_, _++_, append-assoc, append-nil}
-use borrow.Author.Tests.{le-leb, lt-leb, eq-eqb, ne-eqb, not-false}
-use lib.Dec.{eqb}
-use lib.ListN.{length, take, drop, length-take, length-replicate, drop-of-length-le}
+use borrow.Author.Tests.{le-leb, lt-leb, ne-eqb, not-false}
+use lib.ListN.{length, take, length-take, length-replicate, drop-of-length-le}
 use lib.Seq.{take-all}
 use Rattle.letters.specs.Words.{Word}
-use Rattle.letters.specs.Lists.{nameEnd, linesOf}
+use Rattle.letters.specs.Lists.{linesOf}
 use Rattle.letters.proofs.Lines.{lines-at}
 use Rattle.sets.specs.Sets.{Words}
-use Rattle.sets.specs.Cut.{mostNames}
-use Rattle.model.specs.Run.{run}
 use Rattle.rows.specs.Table.{Table, room}
 use Rattle.rows.specs.Words.{lists}
-use Rattle.rows.specs.Rules.{sound}
 use Rattle.rows.proofs.Zeros.{zeros-sound, zeros-lists}
-use Rattle.answers.specs.declared.replies.Reply.{Reply}
 use Rattle.listing.specs.Pieces.{lines}
-use Rattle.admitting.specs.Books.{bookOf}
-use Rattle.book.specs.Promised.{Promised, outcomeOf, replyTo}
-use Rattle.book.proofs.AnyCalls.{kept, sound-book}
-use Rattle.printing.specs.Printed.{answerLine}
-use Rattle.lines.specs.declared.requests.Kind.{Kind}
-use Rattle.lines.specs.declared.requests.Kind.the-variants.{Add, Remove, Ask, Count}
-use Rattle.lines.specs.declared.requests.Request.{Request}
-use Rattle.lines.specs.declared.requests.Request.the-variants as request
+use Rattle.book.proofs.AnyCalls.{sound-book}
 use Rattle.lines.specs.declared.steps.Place.{Place}
-use Rattle.lines.specs.declared.steps.Stage.{Stage}
 use Rattle.lines.specs.declared.steps.Stage.the-variants.{Over, Long, First, Line, Names}
-use Rattle.lines.specs.Requests.{nameOf, requestOf, callOf}
-use Rattle.lines.specs.Promises.{said, RequestLeaves, namesBehind, following}
-use Rattle.lines.specs.Steps.{deskNumbers, mostInput, tooLong, mostOutput, beginning, overAfter, lineAt, nextNames, ready, stageOf, nextPiece, stageText, stepText, Does, Steps}
-use Rattle.lines.specs.Sessions.{listsAfter, printed, prints, inputSize, Step, StepsFrom, written}
+use Rattle.lines.specs.Requests.{requestOf}
+use Rattle.lines.specs.Steps.{deskNumbers, mostInput, tooLong, mostOutput, beginning, overAfter, lineAt, nextNames, ready, nextPiece, stageText, Does, Steps}
+use Rattle.lines.specs.Sessions.{prints, inputSize, Step, StepsFrom, written}
 use Rattle.lines.proofs.Following.{following-inside, following-rest, following-some}
-use Rattle.lines.proofs.Stages.{Ready, Lines, by-stage, desk-length, step-written}
+use Rattle.lines.proofs.Kept.{line-kept}
+use Rattle.lines.proofs.Places.{Stands, stands-apart, stands-ready, behind, more, left, left-first, left-lines, left-names}
+use Rattle.lines.proofs.Stages.{Ready, Lines, by-stage, desk-length, stepText, step-written}
 
--- ---- a line on a sound book
-
-record Kept (t after : Table) (line : List ℕ) (n : ℕ) (asked : Request) : Type 0 where
-  fine : sound after ≡ true
-  long : length after ≡ length t
-  names : lists after ≡ listsAfter (bookOf t) line asked
-  told : said (outcomeOf t) line n asked ≡ said (run (bookOf t)) line n asked
-  follow : namesBehind (bookOf after) asked ≡ namesBehind (bookOf t) asked
-
--- the names that follow are those before the call: where some follow, the call only counts
-names-stay : (t after : Table) (kind : Kind) (m : ℕ) (name : List ℕ) (reply : Reply) → Promised t after (callOf kind m name) reply
-    → namesBehind (bookOf after) (request.Call kind m) ≡ namesBehind (bookOf t) (request.Call kind m)
-names-stay t after Add m name reply p = refl
-names-stay t after Remove m name reply p = refl
-names-stay t after Ask m name reply p = refl
-names-stay t after Count m name reply (a, p, e, same) = rw same
-
-line-kept : (t after : Table) (line : List ℕ) (n : ℕ) (asked : Request) → sound t ≡ true → RequestLeaves t after line asked → Kept t after line n asked
-line-kept t after line n (request.Call kind m) s p =
-    let call = callOf kind m (nameOf line) in
-    let k = kept t after s call (replyTo t call) p in
-    record {
-      fine = k .fine;
-      long = k .long;
-      names = k .names;
-      told = ap (λ (r : Reply). answerLine line (r .number) (r .value)) (k .said);
-      follow = names-stay t after kind m (nameOf line) (replyTo t call) p;
-    }
-line-kept t after line n request.Other s same =
-    record { fine = rw same s; long = rw same; names = rw same; told = refl; follow = refl }
-
--- ---- what is left to print at a place
-
--- the names behind its line, and the lines behind that
-abbrev behind : Table → List ℕ → Place → Words
-behind t input place = namesBehind (bookOf t) (requestOf (lineAt input place))
-
-abbrev more : Table → List ℕ → Place → List ℕ
-more t input place = printed (room t) (lists t) (place .line + 1) (linesOf (drop (nameEnd input (place .at) + 1) input))
-
-abbrev left : Table → List ℕ → Place → List ℕ
-left t input place =
-    cond (place .over) []
-    (cond (eqb (place .line) 0) (prints input)
-    (cond (eqb (place .names) 0) (printed (room t) (lists t) (place .line) (linesOf (drop (place .at) input)))
-    (lines (drop (place .names - 1) (behind t input place)) ++ more t input place)))
-
-module _ (t : Table) (input : List ℕ) (place : Place) (going : place .over ≡ false) where
-  left-first : place .line ≡ 0 → left t input place ≡ prints input
-  left-first none = rw (going, none)
-
-  left-lines : 0 < place .line → place .names ≡ 0
-      → left t input place ≡ printed (room t) (lists t) (place .line) (linesOf (drop (place .at) input))
-  left-lines some none = rw (going, ne-eqb (place .line) 0 (λ e. omega arith), none)
-
-  left-names : 0 < place .line → 0 < place .names
-      → left t input place ≡ lines (drop (place .names - 1) (behind t input place)) ++ more t input place
-  left-names some named = rw (going, ne-eqb (place .line) 0 (λ e. omega arith), ne-eqb (place .names) 0 (λ e. omega arith))
-
--- ---- where a step from the beginning can lead
-
-record Stands (t : Table) (input : List ℕ) (place : Place) : Type 0 where
-  long : length t ≡ deskNumbers
-  fine : 0 < place .line → sound t ≡ true
-  short : 0 < place .line → length input ≤ mostInput
-  numbered : place .line ≤ place .at + 1
-  bounded : place .line ≤ mostInput + 1
-  few : place .names ≤ mostNames + 1
-  inside : 0 < place .names → place .at < length input
-
--- a step can be taken unless it is over
-stands-ready : (t : Table) (input : List ℕ) (place : Place) (size : ℕ) → Stands t input place → mostOutput ≤ size → ready t place size ≡ not (place .over)
-stands-ready t input place size s h =
-    rw (
-      eq-eqb (length t) deskNumbers (s .long),
-      le-leb mostOutput size h,
-      le-leb (place .line) (mostInput + 1) (s .bounded),
-      le-leb (place .names) (mostNames + 1) (s .few),
-    )
-
-module _ (t after : Table) (input : List ℕ) (place : Place) (before filled : List ℕ) (next : Place) (stands : Stands t input place) (takes : mostOutput ≤ length before) where
+module _ (t after : Table) (input : List ℕ) (place : Place) (before filled : List ℕ) (next : Place) (stands : Stands t input place)
+    (takes : mostOutput ≤ length before) where
   -- the step prints the front of what is left
   record Goes (text : List ℕ) : Type 0 where
     then : Stands after input next
@@ -131,17 +40,7 @@ module _ (t after : Table) (input : List ℕ) (place : Place) (before filled : L
   goes-over : (text : List ℕ) (k : ℕ) → left t input place ≡ text → next ≡ overAfter k → after ≡ t → Goes text
   goes-over text k all e same =
       record {
-        then =
-            rw (e, same)
-            (record {
-              long = stands .long;
-              fine = λ h. absurd (omega arith);
-              short = λ h. absurd (omega arith);
-              numbered = omega arith;
-              bounded = omega arith;
-              few = omega arith;
-              inside = λ h. absurd (omega arith);
-            });
+        then = rw (e, same) (stands-apart t input (overAfter k) (stands .long) refl refl);
         front = rw e (all ∙ sym (append-nil text));
       }
 
@@ -153,7 +52,7 @@ module _ (t after : Table) (input : List ℕ) (place : Place) (before filled : L
   long : Ready t place (length before) → mostInput < length input → Does Long t after input place before filled next → Goes tooLong
   unfolding prints
   long r h p =
-      let none : place .line ≡ 0 = elim (decLt 0 (place .line)) [ | yes some ↦ absurd (omega (arith, stands .short some)) | no some ↦ omega arith ] in
+      let none : place .line ≡ 0 = elim (decLt 0 (place .line)) [ yes some ↦ absurd (omega (arith, stands .short some)) | no some ↦ omega arith ] in
       goes-over tooLong (length tooLong) (left-first t input place (r .going) none ∙ rw (lt-leb (length input) mostInput h)) (p .next) (p .table)
 
   first : Ready t place (length before) → length input ≤ mostInput → place .line ≡ 0 → Does First t after input place before filled next → Goes []
@@ -179,7 +78,7 @@ module _ (t after : Table) (input : List ℕ) (place : Place) (before filled : L
   end : Lines t input place (length before) → length input ≤ place .at → Does Over t after input place before filled next → Goes []
   unfolding linesOf
   end l h p =
-      let none : place .names ≡ 0 = elim (decLt 0 (place .names)) [ | yes some ↦ absurd (omega (arith, stands .inside some)) | no some ↦ omega arith ] in
+      let none : place .names ≡ 0 = elim (decLt 0 (place .names)) [ yes some ↦ absurd (omega (arith, stands .inside some)) | no some ↦ omega arith ] in
       goes-over [] 0
       (left-lines t input place (l .ready .going) (l .numbered) none ∙ rw (drop-of-length-le input h))
       (p .next) (p .table)
@@ -205,7 +104,17 @@ module _ (t after : Table) (input : List ℕ) (place : Place) (before filled : L
         front =
             rw (p .next)
             (left-lines t input place (l .ready .going) (l .numbered) none
-            ∙ rw (lines-at input (place .at) h, ne-eqb (place .line) 0 (λ e. omega (arith, l .numbered)), k .told, k .follow, same-room, k .names, sound-book t fine, add-one (place .line), append-assoc));
+            ∙ rw (
+              lines-at input (place .at) h,
+              ne-eqb (place .line) 0 (λ e. omega (arith, l .numbered)),
+              k .told,
+              k .follow,
+              same-room,
+              k .names,
+              sound-book t fine,
+              add-one (place .line),
+              append-assoc,
+            ));
       }
 
   -- the names of a piece, or none: then none is left
@@ -235,6 +144,7 @@ module _ (t after : Table) (input : List ℕ) (place : Place) (before filled : L
             (left-names t input place (l .ready .going) (l .numbered) named
             ∙ rw (drop-of-length-le (behind t input place) done, ne-eqb (place .line + 1) 0 (λ e. omega arith)));
       }
+
   some-more : Lines t input place (length before) → place .at < length input → 0 < place .names → after ≡ t → (w : Word) (ws : Words)
       → nextPiece t input place (length before) ≡ w ∷ ws → next ≡ nextNames input place (w ∷ ws) → Goes (lines (w ∷ ws))
   some-more l h named same w ws e n =
@@ -256,8 +166,8 @@ module _ (t after : Table) (input : List ℕ) (place : Place) (before filled : L
             rw (n, same)
             (left-names t input place (l .ready .going) (l .numbered) named
             ∙ ap (λ (z : List ℕ). z ++ more t input place) (following-rest t (lineAt input place) (place .names - 1) (length before))
-            ∙ append-assoc (lines (nextPiece t input place (length before))) (lines (drop (place .names - 1 + length (nextPiece t input place (length before))) (behind t input place))) (more t input place)
-            ∙ rw (← on, e) refl
+            ∙ append-assoc (lines (nextPiece t input place (length before))) _ (more t input place)
+            ∙ (rw (← on, e))
             ∙ ap (λ (z : List ℕ). lines (w ∷ ws) ++ z) (sym (left-names t input (nextNames input place (w ∷ ws)) refl (l .numbered) (omega arith))));
       }
 
@@ -284,19 +194,9 @@ steps-print (s ∷ more) input t place stands (p, takes, rest) =
     ap₂ _++_ (step-written p) (steps-print more input (s .table) (s .place) (g .then) rest) ∙ sym (g .front)
 
 -- From the beginning, on any table of the desk's length, the steps write what 01 says that the desk program prints.
-pub desk-prints : (input : List ℕ) (t : Table) (steps : List Step) → length t ≡ deskNumbers → StepsFrom input t beginning steps → written steps ≡ prints input
-desk-prints input t steps long p =
-    steps-print steps input t beginning
-    (record {
-      long = long;
-      fine = λ h. absurd (omega arith);
-      short = λ h. absurd (omega arith);
-      numbered = omega arith;
-      bounded = omega arith;
-      few = omega arith;
-      inside = λ h. absurd (omega arith);
-    })
-    p
+pub desk-prints : (input : List ℕ) (t : Table) (steps : List Step) → length t ≡ deskNumbers → StepsFrom input t beginning steps
+    → written steps ≡ prints input
+desk-prints input t steps long p = steps-print steps input t beginning (stands-apart t input beginning long refl refl) p
 
 -- What the program reads of the input suffices.
 pub prints-front : (input : List ℕ) → prints (take inputSize input) ≡ prints input

@@ -2,7 +2,7 @@
 use Prim.Native.Nat.{ℕ, _+_, _≤_, _<_}
 use native.Mathlib.Omega.{arith}
 use mathlib.Core.Path.{_≡_, refl, sym, _∙_, ap, subst}
-use mathlib.Core.Bool.{Bool, true, false, not, _&&_, and-eq-true-iff}
+use mathlib.Core.Bool.{true, false, _&&_, and-eq-true-iff}
 use mathlib.Core.List.{List, [], _∷_}
 use borrow.Author.Tests.{eqb-true, eqb-false, leb-true, leb-false, not-true}
 use lib.Dec.{eqb, leb}
@@ -16,7 +16,7 @@ use Rattle.printing.proofs.Buffers.{overlaid-long, overlaid-take}
 use Rattle.lines.specs.declared.steps.Place.{Place}
 use Rattle.lines.specs.declared.steps.Stage.{Stage}
 use Rattle.lines.specs.declared.steps.Stage.the-variants.{Over, Long, First, Line, Names}
-use Rattle.lines.specs.Steps.{deskNumbers, mostInput, mostOutput, nextLine, nextNames, isPlace, ready, stageOf, nextPiece, stageText, stageNext, stepText, Does, Steps}
+use Rattle.lines.specs.Steps.{deskNumbers, mostInput, mostOutput, nextLine, nextNames, isPlace, ready, stageOf, nextPiece, stageText, stageNext, Does, Steps}
 use Rattle.lines.proofs.Choices.{by-choice}
 
 -- a step can be taken
@@ -27,7 +27,7 @@ pub record Ready (t : Table) (place : Place) (size : ℕ) : Type 0 where
   pub names : place .names ≤ mostNames + 1
   pub going : place .over ≡ false
 
-pub ready-is : (t : Table) (place : Place) (size : ℕ) → ready t place size ≡ true → Ready t place size
+ready-is : (t : Table) (place : Place) (size : ℕ) → ready t place size ≡ true → Ready t place size
 ready-is t place size e =
     let (lent, stands) = and-eq-true-iff (eqb (length t) deskNumbers && leb mostOutput size) _ .0 e in
     let (long, buffer) = and-eq-true-iff (eqb (length t) deskNumbers) _ .0 lent in
@@ -113,7 +113,8 @@ none-next : (input : List ℕ) (place : Place) (l : Words) → length l ≡ 0 �
 none-next input place [] none = refl
 none-next input place (w ∷ l) none = absurd (omega arith)
 
-module _ (t : Table) (input : List ℕ) (place : Place) (before filled : List ℕ) (piece : Piece) (p : Written (nextPiece t input place (length before)) before filled piece) where
+module _ (t : Table) (input : List ℕ) (place : Place) (before filled : List ℕ) (piece : Piece)
+    (p : Written (nextPiece t input place (length before)) before filled piece) where
   pub some-done : (piece .names ≡ 0 → ⊥)
       → Does Names t t input place before filled
       (record { at = place .at; line = place .line; names = place .names + piece .names; bytes = piece .bytes; over = false })
@@ -146,7 +147,11 @@ stage-bytes t input place size First = refl
 stage-bytes t input place size Line = refl
 stage-bytes t input place size Names = names-bytes input place (nextPiece t input place size)
 
-module _ {t after : Table} {input : List ℕ} {place : Place} {before filled : List ℕ} {next : Place} (p : Steps t after input place before filled next) where
+abbrev pub stepText : Table → List ℕ → Place → ℕ → List ℕ
+stepText t input place size = stageText t input place size (stageOf t input place size)
+
+module _ {t after : Table} {input : List ℕ} {place : Place} {before filled : List ℕ} {next : Place}
+    (p : Steps t after input place before filled next) where
   step-bytes : next .bytes ≡ length (stepText t input place (length before))
   step-bytes = ap (λ (q : Place). q .bytes) (p .next) ∙ stage-bytes t input place (length before) (stageOf t input place (length before))
 

@@ -83,7 +83,7 @@ stageOf t input place size =
     Long)
     Over
 
--- of the names that follow the line, the next piece: one name less was printed than the place says
+-- "After `L` with number 0 the names follow in order, one per line": the next piece of them; so many were printed
 abbrev pub nextPiece : Table → List ℕ → Place → ℕ → Words
 nextPiece t input place size = following t (lineAt input place) (place .names - 1) size
 
@@ -112,14 +112,12 @@ StageLeaves t after input place First = after ≡ replicate (length t) 0
 StageLeaves t after input place Line = LineLeaves t after (lineAt input place)
 StageLeaves t after input place Names = after ≡ t
 
-abbrev pub stepText : Table → List ℕ → Place → ℕ → List ℕ
-stepText t input place size = stageText t input place size (stageOf t input place size)
-
 -- what there was to do was done
 pub record Does (stage : Stage) (t after : Table) (input : List ℕ) (place : Place) (before filled : List ℕ) (then : Place) : Type 0 where
   pub next : then ≡ stageNext t input place (length before) stage
   pub buffer : filled ≡ overlaid (stageText t input place (length before) stage) before
   pub table : StageLeaves t after input place stage
 
+-- a step does what there is to do
 abbrev pub Steps : Table → Table → List ℕ → Place → List ℕ → List ℕ → Place → Type 0
 Steps t after input place before filled next = Does (stageOf t input place (length before)) t after input place before filled next

@@ -58,13 +58,25 @@ enum Stage {
 pub fn beginning() -> Place
     ensures { λ p. ⌜ p ≡ beginning ⌝ }
 {
-    Place { at: 0, line: 0, names: 0, bytes: 0, over: false }
+    Place {
+        at: 0,
+        line: 0,
+        names: 0,
+        bytes: 0,
+        over: false,
+    }
 }
 
 fn over_after(bytes: usize) -> Place
     ensures { λ p. ⌜ p ≡ overAfter bytes ⌝ }
 {
-    Place { at: 0, line: 0, names: 0, bytes, over: true }
+    Place {
+        at: 0,
+        line: 0,
+        names: 0,
+        bytes,
+        over: true,
+    }
 }
 
 // No step from the beginning leads to a place with more lines or names than there can be.
@@ -95,7 +107,11 @@ fn stage_of(t: &[u16], input: &[u8], place: Place, size: usize) -> Stage
     if input.len() <= place.at {
         return Stage::Over;
     }
-    if place.names == 0 { Stage::Line } else { Stage::Names }
+    if place.names == 0 {
+        Stage::Line
+    } else {
+        Stage::Names
+    }
 }
 
 // "(more: it prints only `! long`)".
@@ -114,7 +130,13 @@ fn begin(t: &mut [u16]) -> Place
     ensures { λ p. ⌜ (p ≡ firstLine) × (now (t .exit) ≡ replicate (length (now (t .entry))) 0) ⌝ }
 {
     empty(t);
-    Place { at: 0, line: 1, names: 0, bytes: 0, over: false }
+    Place {
+        at: 0,
+        line: 1,
+        names: 0,
+        bytes: 0,
+        over: false,
+    }
 }
 
 // Answers the line, and goes to its names.
@@ -125,7 +147,13 @@ fn answer_line(t: &mut [u16], input: &[u8], place: Place, out: &mut [u8]) -> Pla
     let at = place.at;
     let line = place.line;
     let bytes = answer(t, name_at(input, at), line, out);
-    Place { at, line, names: 1, bytes, over: false }
+    Place {
+        at,
+        line,
+        names: 1,
+        bytes,
+        over: false,
+    }
 }
 
 fn next_line(input: &[u8], place: Place) -> Place
@@ -133,7 +161,13 @@ fn next_line(input: &[u8], place: Place) -> Place
     ensures { λ p. ⌜ p ≡ nextLine (now (input .entry)) place ⌝ }
 {
     let at = place.at;
-    Place { at: name_end(input, at) + 1, line: place.line + 1, names: 0, bytes: 0, over: false }
+    Place {
+        at: name_end(input, at) + 1,
+        line: place.line + 1,
+        names: 0,
+        bytes: 0,
+        over: false,
+    }
 }
 
 // Prints the names behind the line from where the last step ended, and goes on to the next line where none is left.
@@ -147,7 +181,13 @@ fn list_line(t: &[u16], input: &[u8], place: Place, out: &mut [u8]) -> Place
     if piece.names == 0 {
         return next_line(input, place);
     }
-    Place { at, line: place.line, names: names + piece.names, bytes: piece.bytes, over: false }
+    Place {
+        at,
+        line: place.line,
+        names: names + piece.names,
+        bytes: piece.bytes,
+        over: false,
+    }
 }
 
 // One step of the program. On a table that is not the desk's, with a buffer that may be too short, from a place

@@ -1,11 +1,8 @@
 -- `list_line` meets its promise: a piece of the names was written, or none was left. Assumes nothing.
 use Prim.Native.Nat.{_-_}
 use native.Mathlib.Omega.{arith}
-use mathlib.Core.Path.{_≡_}
 use borrow.Author.Needs.{needs}
 use lib.ListN.{length}
-use Rattle.listing.specs.Pieces.{Written}
-use Rattle.lines.specs.Steps.{nextPiece}
 use Rattle.lines.proofs.Following.{following-inside}
 use Rattle.lines.proofs.Stages.{some-done, none-done}
 use Rattle.lines.proofs.steps.list_line.Statement.{statement}
