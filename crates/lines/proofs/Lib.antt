@@ -1,7 +1,12 @@
--- What is proved of the lines. Assumes nothing.
+-- What is proved of the lines, and of the program's steps. Assumes nothing.
 mod Headed
-pub mod Following
-pub mod Listing
+mod Choices
+mod Answered
+mod Following
+pub mod Stages
+mod Kept
+mod Places
 pub mod Sessions
-pub mod Inside
+pub mod Ends
 pub mod Tight
+pub mod Listing

@@ -1,74 +1,210 @@
--- A program that takes the lines one by one, and prints to each what is promised and then the names that follow, prints what sixteen plain sets
--- print. By induction over the lines: a call on a sound book is the model's, and keeps the book sound. Assumes nothing.
-use Prim.Native.Nat.{ℕ, suc, _≤_}
-use mathlib.Core.Path.{_≡_, refl, _∙_, ap}
-use mathlib.Core.Bool.{true}
-use mathlib.Core.List.{List, [], _∷_}
-use borrow.Author.Tests.{le-leb}
-use lib.ListN.{length}
+-- Step after step, on any table of the desk's length, what is written is what sixteen plain sets print. By induction over the steps: at every
+-- place it is known what is left to print, each step writes the front of it, and the next place has the rest. A line's call keeps a sound book,
+-- and on a sound book it is the model's; the pieces of a list go on where the one before them ended. Assumes nothing.
+use Prim.Native.Nat.{ℕ, _+_, _-_, _≤_, _<_}
+use native.Mathlib.Numerals.{add-one}
+use native.Mathlib.Omega.{arith}
+use native.Mathlib.Decide.{decLt}
+use mathlib.Core.Path.{_≡_, refl, sym, _∙_, ap, ap₂}
+use mathlib.Core.Bool.{false}
+use mathlib.Core.List.{List, [], _∷_, _++_, append-assoc, append-nil}
+use borrow.Author.Tests.{le-leb, lt-leb, ne-eqb, not-false}
+use lib.ListN.{length, take, length-take, length-replicate, drop-of-length-le}
+use lib.Seq.{take-all}
+use Rattle.letters.specs.Words.{Word}
 use Rattle.letters.specs.Lists.{linesOf}
-use Rattle.rows.specs.Table.{Table, lengthOk, room}
+use Rattle.letters.proofs.Lines.{lines-at}
+use Rattle.sets.specs.Sets.{Words}
+use Rattle.rows.specs.Table.{Table, room}
 use Rattle.rows.specs.Words.{lists}
-use Rattle.rows.specs.Rules.{sound}
-use Rattle.answers.specs.declared.cases.Answer.{Answer}
-use Rattle.answers.specs.declared.replies.Reply.{Reply}
-use Rattle.admitting.specs.Books.{bookOf}
-use Rattle.calls.specs.Promises.{Empties}
-use Rattle.book.specs.Promised.{Promised}
-use Rattle.book.proofs.AnyCalls.{empty-long, kept, sound-book, any-calls}
-use Rattle.printing.specs.Printed.{answerLine}
-use Rattle.lines.specs.declared.requests.Kind.{Kind}
-use Rattle.lines.specs.declared.requests.Kind.the-variants.{Add, Remove, Ask, Count}
-use Rattle.lines.specs.declared.requests.Request.{Request}
-use Rattle.lines.specs.declared.requests.Request.the-variants as request
-use Rattle.lines.specs.Requests.{nameOf, requestOf, callOf}
-use Rattle.lines.specs.Promises.{Said, namesBehind}
-use Rattle.lines.specs.Sessions.{said, left, printed, deskRoom, mostInput, prints, Prints}
+use Rattle.rows.proofs.Zeros.{zeros-sound, zeros-lists}
+use Rattle.listing.specs.Pieces.{lines}
+use Rattle.promises.proofs.AnyCalls.{sound-book}
+use Rattle.lines.specs.declared.steps.Place.{Place}
+use Rattle.lines.specs.declared.steps.Stage.the-variants.{Over, Long, First, Line, Names}
+use Rattle.lines.specs.Requests.{requestOf}
+use Rattle.lines.specs.Steps.{deskNumbers, mostInput, tooLong, mostOutput, beginning, overAfter, lineAt, nextNames, ready, nextPiece, stageText, Does, Steps}
+use Rattle.lines.specs.Sessions.{prints, inputSize, Step, StepsFrom, written}
+use Rattle.lines.proofs.Following.{following-inside, following-rest, following-some}
+use Rattle.lines.proofs.Kept.{line-kept}
+use Rattle.lines.proofs.Places.{Stands, stands-apart, stands-ready, behind, more, left, left-first, left-lines, left-names}
+use Rattle.lines.proofs.Stages.{Ready, Lines, by-stage, desk-length, stepText, step-written}
 
--- what a line comes to on a sound book
-record Step (t after : Table) (line : List ℕ) (n : ℕ) (asked : Request) (text : List ℕ) : Type 0 where
-  fine : sound after ≡ true
-  same-room : room after ≡ room t
-  names : lists after ≡ left (bookOf t) line asked
-  printed : text ≡ said (bookOf t) line n asked
-  follow : namesBehind (bookOf after) asked ≡ namesBehind (bookOf t) asked
+module _ (t after : Table) (input : List ℕ) (place : Place) (before filled : List ℕ) (next : Place) (stands : Stands t input place)
+    (takes : mostOutput ≤ length before) where
+  -- the step prints the front of what is left
+  record Goes (text : List ℕ) : Type 0 where
+    then : Stands after input next
+    front : left t input place ≡ text ++ left after input next
 
--- the names that follow are those before the call: where some follow, the call only counts
-names-stay : (t after : Table) (kind : Kind) (m : ℕ) (name : List ℕ) (reply : Reply) → Promised t after (callOf kind m name) reply
-    → namesBehind (bookOf after) (request.Call kind m) ≡ namesBehind (bookOf t) (request.Call kind m)
-names-stay t after Add m name reply p = refl
-names-stay t after Remove m name reply p = refl
-names-stay t after Ask m name reply p = refl
-names-stay t after Count m name reply (a, p, e, same) = rw same
+  goes-over : (text : List ℕ) (k : ℕ) → left t input place ≡ text → next ≡ overAfter k → after ≡ t → Goes text
+  goes-over text k all e same =
+      record {
+        then = rw (e, same) (stands-apart t input (overAfter k) (stands .long) refl refl);
+        front = rw e (all ∙ sym (append-nil text));
+      }
 
-step : (t after : Table) (line : List ℕ) (n : ℕ) (asked : Request) (text : List ℕ) → sound t ≡ true → Said t after line n asked text
-    → Step t after line n asked text
-step t after line n (request.Call kind m) text s (reply, p, e) =
-    let k = kept t after s (callOf kind m (nameOf line)) reply p in
-    record {
-      fine = k .fine;
-      same-room = rw (k .long);
-      names = k .names;
-      printed = e ∙ ap (λ (r : Reply). answerLine line (r .number) (r .value)) (k .said);
-      follow = names-stay t after kind m (nameOf line) reply p;
-    }
-step t after line n request.Other text s (same, e) =
-    record { fine = rw same s; same-room = rw same; names = rw same; printed = e; follow = refl }
+  idle : ready t place (length before) ≡ false → Does Over t after input place before filled next → Goes []
+  idle e p =
+      let over = not-false (place .over) (sym (stands-ready t input place (length before) stands takes) ∙ e) in
+      goes-over [] 0 (rw over) (p .next) (p .table)
 
--- On a sound book.
-pub sound-prints : (more : List (List ℕ)) (t after : Table) (n : ℕ) (text : List ℕ) → sound t ≡ true → Prints t after n more text
-    → text ≡ printed (room t) (lists t) n more
-sound-prints [] t after n text s (same, e) = e
-sound-prints (line ∷ more) t after n text s (between, first, rest, p, later, e) =
-    let k = step t between line n (requestOf line) first s p in
-    let again = sound-prints more between after (suc n) rest (k .fine) later in
-    e ∙ rw (k .printed, k .follow, again, k .same-room, k .names, sound-book t s)
+  long : Ready t place (length before) → mostInput < length input → Does Long t after input place before filled next → Goes tooLong
+  unfolding prints
+  long r h p =
+      let none : place .line ≡ 0 = elim (decLt 0 (place .line)) [ yes some ↦ absurd (omega (arith, stands .short some)) | no some ↦ omega arith ] in
+      goes-over tooLong (length tooLong) (left-first t input place (r .going) none ∙ rw (lt-leb (length input) mostInput h)) (p .next) (p .table)
 
--- From an empty book of the desk's room, and for an input that is not too long, it is what 01 says that the desk program prints.
-pub desk-prints : (slice t after : Table) (a : Answer) (input text : List ℕ) → lengthOk slice ≡ true → room slice ≡ deskRoom → Empties slice t a
-    → length input ≤ mostInput → Prints t after 1 (linesOf input) text → text ≡ prints input
+  first : Ready t place (length before) → length input ≤ mostInput → place .line ≡ 0 → Does First t after input place before filled next → Goes []
+  unfolding prints
+  first r h none p =
+      let zeros : length after ≡ length t = ap length (p .table) ∙ length-replicate {A = ℕ} (length t) 0 in
+      let empty = ap lists (p .table) ∙ zeros-lists (length t) in
+      record {
+        then =
+            rw (p .next)
+            (record {
+              long = zeros ∙ stands .long;
+              fine = λ some. rw (p .table) (zeros-sound t (desk-length t (stands .long)));
+              short = λ some. h;
+              numbered = omega arith;
+              bounded = omega arith;
+              few = omega arith;
+              inside = λ some. absurd (omega arith);
+            });
+        front = rw (p .next) (left-first t input place (r .going) none ∙ rw (le-leb (length input) mostInput h, empty, zeros, stands .long));
+      }
+
+  end : Lines t input place (length before) → length input ≤ place .at → Does Over t after input place before filled next → Goes []
+  unfolding linesOf
+  end l h p =
+      let none : place .names ≡ 0 = elim (decLt 0 (place .names)) [ yes some ↦ absurd (omega (arith, stands .inside some)) | no some ↦ omega arith ] in
+      goes-over [] 0
+      (left-lines t input place (l .ready .going) (l .numbered) none ∙ rw (drop-of-length-le input h))
+      (p .next) (p .table)
+
+  line : Lines t input place (length before) → place .at < length input → place .names ≡ 0 → Does Line t after input place before filled next
+      → Goes (stageText t input place (length before) Line)
+  line l h none p =
+      let fine = stands .fine (l .numbered) in
+      let k = line-kept t after (lineAt input place) (place .line) (requestOf (lineAt input place)) fine (p .table) in
+      let same-room : room after ≡ room t = rw (k .long) in
+      record {
+        then =
+            rw (p .next)
+            (record {
+              long = k .long ∙ stands .long;
+              fine = λ some. k .fine;
+              short = stands .short;
+              numbered = stands .numbered;
+              bounded = stands .bounded;
+              few = omega arith;
+              inside = λ some. h;
+            });
+        front =
+            rw (p .next)
+            (left-lines t input place (l .ready .going) (l .numbered) none
+            ∙ rw (
+              lines-at input (place .at) h,
+              ne-eqb (place .line) 0 (λ e. omega (arith, l .numbered)),
+              k .told,
+              k .follow,
+              same-room,
+              k .names,
+              sound-book t fine,
+              add-one (place .line),
+              append-assoc,
+            ));
+      }
+
+  -- the names of a piece, or none: then none is left
+  none-more : Lines t input place (length before) → place .at < length input → 0 < place .names → after ≡ t
+      → nextPiece t input place (length before) ≡ [] → next ≡ nextNames input place [] → Goes (lines [])
+  unfolding lines
+  none-more l h named same e n =
+      let done : length (behind t input place) ≤ place .names - 1 =
+      elim (decLt (place .names - 1) (length (behind t input place))) [
+        | yes some ↦ absurd (omega (arith, ap length e, following-some t (lineAt input place) (place .names - 1) (length before) (omega arith) some))
+        | no some ↦ omega arith
+      ] in
+      record {
+        then =
+            rw (n, same)
+            (record {
+              long = stands .long;
+              fine = λ some. stands .fine (l .numbered);
+              short = λ some. l .short;
+              numbered = omega (arith, stands .numbered);
+              bounded = omega (arith, stands .numbered, l .short);
+              few = omega arith;
+              inside = λ some. absurd (omega arith);
+            });
+        front =
+            rw (n, same)
+            (left-names t input place (l .ready .going) (l .numbered) named
+            ∙ rw (drop-of-length-le (behind t input place) done, ne-eqb (place .line + 1) 0 (λ e. omega arith)));
+      }
+
+  some-more : Lines t input place (length before) → place .at < length input → 0 < place .names → after ≡ t → (w : Word) (ws : Words)
+      → nextPiece t input place (length before) ≡ w ∷ ws → next ≡ nextNames input place (w ∷ ws) → Goes (lines (w ∷ ws))
+  some-more l h named same w ws e n =
+      let few : length (nextPiece t input place (length before)) ≡ length (w ∷ ws) = ap length e in
+      let on : place .names + length (w ∷ ws) - 1 ≡ place .names - 1 + length (nextPiece t input place (length before)) = omega arith in
+      record {
+        then =
+            rw (n, same)
+            (record {
+              long = stands .long;
+              fine = stands .fine;
+              short = stands .short;
+              numbered = stands .numbered;
+              bounded = stands .bounded;
+              few = omega (arith, following-inside t (lineAt input place) (place .names - 1) (length before) (omega (arith, stands .few)));
+              inside = λ some. h;
+            });
+        front =
+            rw (n, same)
+            (left-names t input place (l .ready .going) (l .numbered) named
+            ∙ ap (λ (z : List ℕ). z ++ more t input place) (following-rest t (lineAt input place) (place .names - 1) (length before))
+            ∙ append-assoc (lines (nextPiece t input place (length before))) _ (more t input place)
+            ∙ (rw (← on, e))
+            ∙ ap (λ (z : List ℕ). lines (w ∷ ws) ++ z) (sym (left-names t input (nextNames input place (w ∷ ws)) refl (l .numbered) (omega arith))));
+      }
+
+  piece : Lines t input place (length before) → place .at < length input → 0 < place .names → after ≡ t → (l : Words)
+      → nextPiece t input place (length before) ≡ l → next ≡ nextNames input place l → Goes (lines l)
+  piece l h named same [] e n = none-more l h named same e n
+  piece l h named same (w ∷ ws) e n = some-more l h named same w ws e n
+
+  names : Lines t input place (length before) → place .at < length input → 0 < place .names → Does Names t after input place before filled next
+      → Goes (stageText t input place (length before) Names)
+  names l h named p = piece l h named (p .table) (nextPiece t input place (length before)) refl (p .next)
+
+  goes : Steps t after input place before filled next → Goes (stepText t input place (length before))
+  goes =
+      by-stage t input place (length before)
+      (λ s. Does s t after input place before filled next → Goes (stageText t input place (length before) s))
+      idle long first end line names
+
+steps-print : (steps : List Step) (input : List ℕ) (t : Table) (place : Place) → Stands t input place → StepsFrom input t place steps
+    → written steps ≡ left t input place
+steps-print [] input t place stands over = rw over
+steps-print (s ∷ more) input t place stands (p, takes, rest) =
+    let g = goes t (s .table) input place (s .before) (s .filled) (s .place) stands takes p in
+    ap₂ _++_ (step-written p) (steps-print more input (s .table) (s .place) (g .then) rest) ∙ sym (g .front)
+
+-- From the beginning, on any table of the desk's length, the steps write what 01 says that the desk program prints.
+pub desk-prints : (input : List ℕ) (t : Table) (steps : List Step) → length t ≡ deskNumbers → StepsFrom input t beginning steps
+    → written steps ≡ prints input
+desk-prints input t steps long p = steps-print steps input t beginning (stands-apart t input beginning long refl refl) p
+
+-- What the program reads of the input suffices.
+pub prints-front : (input : List ℕ) → prints (take inputSize input) ≡ prints input
 unfolding prints
-desk-prints slice t after a input text fine desk made short p =
-    let start = any-calls slice t t a [] fine made refl in
-    let same-room : room t ≡ deskRoom = rw (empty-long fine made) desk in
-    rw (le-leb (length input) mostInput short) (rw (same-room, start .lists) at (sound-prints (linesOf input) t after 1 text (start .sound) p))
+prints-front input =
+    elim (decLt inputSize (length input)) [
+      | yes h ↦
+          let front : length (take inputSize input) ≡ inputSize = simp length-take (omega arith) in
+          rw (lt-leb (length (take inputSize input)) mostInput (omega arith), lt-leb (length input) mostInput (omega arith))
+      | no h ↦ ap prints (take-all inputSize input (omega arith))
+    ]

@@ -1,5 +1,5 @@
 -- What is said to a line, and which names follow. Assumes nothing.
-use Prim.Native.Nat.{ℕ, _+_, _≤_, _<_}
+use Prim.Native.Nat.{ℕ}
 use mathlib.Core.Path.{_≡_}
 use mathlib.Core.Bool.{cond}
 use mathlib.Core.List.{List, []}
@@ -7,35 +7,41 @@ use lib.Dec.{eqb}
 use lib.ListN.{length, drop}
 use Rattle.sets.specs.Sets.{Words}
 use Rattle.model.specs.Lists.{listOf}
-use Rattle.model.specs.Call.{Book, overlaid}
+use Rattle.model.specs.Call.{Call, Book, Outcome, overlaid}
 use Rattle.model.specs.Call.Call.{count}
 use Rattle.model.specs.Run.{run}
 use Rattle.rows.specs.Table.{Table}
-use Rattle.answers.specs.declared.replies.Reply.{Reply}
 use Rattle.listing.specs.Pieces.{fitting}
-use Rattle.admitting.specs.Books.{bookOf}
-use Rattle.book.specs.Promised.{Promised}
-use Rattle.printing.specs.Printed.{spare, answerLine, otherLine}
+use Rattle.promises.specs.Books.{bookOf}
+use Rattle.promises.specs.Promises.{Promised, outcomeOf, replyTo}
+use Rattle.printing.specs.Printed.{answerLine, otherLine}
 use Rattle.lines.specs.declared.requests.Kind.the-variants.{Add, Remove, Ask, Count}
 use Rattle.lines.specs.declared.requests.Request.{Request}
 use Rattle.lines.specs.declared.requests.Request.the-variants as request
 use Rattle.lines.specs.Requests.{nameOf, requestOf, callOf}
 
--- the call that the line asks for was made as promised, and the text is its answer; "For any other line" nothing is done
-abbrev pub Said : Table → Table → List ℕ → ℕ → Request → List ℕ → Type 0
-Said t after line n (request.Call kind m) text =
-    (reply : Reply) × Promised t after (callOf kind m (nameOf line)) reply × (text ≡ answerLine line (reply .number) (reply .value))
-Said t after line n request.Other text = (after ≡ t) × (text ≡ otherLine n)
+-- what is said to a line, the n-th, by what the call that it asks for comes to; "For any other line" its number
+abbrev pub said : (Call → Outcome) → List ℕ → ℕ → Request → List ℕ
+said outcome line n (request.Call kind m) = let o = outcome (callOf kind m (nameOf line)) in answerLine line (o .number) (o .value)
+said outcome line n request.Other = otherLine n
 
--- what is said to the line, the n-th, stands at the front of the buffer, and k is its length
-abbrev pub Answered : Table → Table → List ℕ → ℕ → List ℕ → List ℕ → ℕ → Type 0
-Answered t after line n before filled k =
-    (text : List ℕ) × Said t after line n (requestOf line) text × (k ≡ length text) × (filled ≡ overlaid text before)
+-- what is said to it on a table
+abbrev pub saidTo : Table → List ℕ → ℕ → List ℕ
+saidTo t line n = said (outcomeOf t) line n (requestOf line)
 
--- where the buffer may be too short for the answer to the line, nothing is done
-pub record Replies (t after : Table) (line : List ℕ) (n : ℕ) (before filled : List ℕ) (k : ℕ) : Type 0 where
-  pub answered : length line + spare ≤ length before → Answered t after line n before filled k
-  pub refused : length before < length line + spare → (k ≡ 0) × (filled ≡ before) × (after ≡ t)
+-- what it leaves of the table: the call's promise; "For any other line" nothing is done
+abbrev pub RequestLeaves : Table → Table → List ℕ → Request → Type 0
+RequestLeaves t after line (request.Call kind m) = let call = callOf kind m (nameOf line) in Promised t after [] [] call (replyTo t call)
+RequestLeaves t after line request.Other = after ≡ t
+
+abbrev pub LineLeaves : Table → Table → List ℕ → Type 0
+LineLeaves t after line = RequestLeaves t after line (requestOf line)
+
+-- what is said to the line stands at the front of the buffer, and k is its length
+pub record Answered (t after : Table) (line : List ℕ) (n : ℕ) (before filled : List ℕ) (k : ℕ) : Type 0 where
+  pub long : k ≡ length (saidTo t line n)
+  pub buffer : filled ≡ overlaid (saidTo t line n) before
+  pub table : LineLeaves t after line
 
 -- "After `L` with number 0 the names follow in order"
 abbrev pub namesBehind : Book → Request → Words
@@ -45,6 +51,9 @@ namesBehind b (request.Call Ask m) = []
 namesBehind b (request.Call Count m) = cond (eqb (run b (count m) .number) 0) (listOf (b .lists) m) []
 namesBehind b request.Other = []
 
--- of the names that follow a line, from the n-th on, as many as fit whole into so many bytes
+-- of the names that follow, from the n-th on, as many as fit whole into so many bytes
+abbrev pub pieceBehind : Table → Request → ℕ → ℕ → Words
+pieceBehind t asked n size = fitting size (drop n (namesBehind (bookOf t) asked))
+
 abbrev pub following : Table → List ℕ → ℕ → ℕ → Words
-following t line n size = fitting size (drop n (namesBehind (bookOf t) (requestOf line)))
+following t line n size = pieceBehind t (requestOf line) n size

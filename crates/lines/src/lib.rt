@@ -1,8 +1,13 @@
-// The lines of the desk program: what a line asks for, the answer to it, and the names that follow. What
-// is offered here asks nothing of its arguments.
+// The desk program as steps: what a line asks for, the answer to it, the names that follow, and how the program
+// goes from one to the next. What is offered here asks nothing of its arguments.
+mod names;
 mod replies;
 mod requests;
+mod steps;
 
-pub use replies::SPARE;
-pub use replies::follow;
-pub use replies::reply;
+pub use steps::INPUT;
+pub use steps::NUMBERS;
+pub use steps::OUTPUT;
+pub use steps::Place;
+pub use steps::beginning;
+pub use steps::step;

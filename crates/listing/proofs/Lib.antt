@@ -5,4 +5,3 @@ pub mod Spelling
 pub mod Listed
 pub mod Fitting
 pub mod Loaded
-pub mod Tight

@@ -6,10 +6,8 @@ use counting::count_names;
 use letters::LINE_END;
 use letters::LONGEST;
 use printing::copy_front;
-use rows::MISSIONS;
 use rows::MOST_ROWS;
 use rows::start;
-use rules::sound;
 ghost use Prim.Native.Nat.{_<_};
 ghost use mathlib.Core.Path.{_≡_};
 ghost use lib.ListN.{length, drop};
@@ -18,7 +16,7 @@ ghost use Rattle.model.specs.Call.{overlaid};
 ghost use Rattle.rows.specs.Words.{words, names};
 ghost use Rattle.rows.specs.Tidy.{Tidy};
 ghost use Rattle.listing.specs.Steps.{Listable};
-ghost use Rattle.listing.specs.Pieces.{fitting, lineIn, unlessOver, piece, Written};
+ghost use Rattle.listing.specs.Pieces.{fitting, lineIn, unlessOver, Written};
 
 // How many names were written, and how many bytes.
 pub struct Piece {
@@ -62,8 +60,8 @@ fn write_lines(t: &[u16], r: usize, n: u32, counts: &[u16], out: &mut [u8]) -> P
     Piece { names, bytes }
 }
 
-// Lists the names of a mission from the n-th on, unless there are over 60,000.
-fn list_mission(t: &[u16], m: usize, n: u32, out: &mut [u8]) -> Piece
+// Lists the names of a mission from the n-th on, as many as fit whole, unless there are over 60,000.
+pub fn list_mission(t: &[u16], m: usize, n: u32, out: &mut [u8]) -> Piece
     requires { ⌜ Tidy (now t) × (m < missions) ⌝ }
     ensures { λ p. ⌜ Written (fitting (length (now (out .entry))) (drop n (unlessOver (names (now (t .entry)) m)))) (now (out .entry)) (now (out .exit)) p ⌝ }
 {
@@ -73,17 +71,4 @@ fn list_mission(t: &[u16], m: usize, n: u32, out: &mut [u8]) -> Piece
     }
     let r = start(t, m) as usize;
     write_lines(t, r, n, &counts, out)
-}
-
-// From the n-th name of a mission's list on, as many whole names as fit, each followed by 0x0A.
-pub fn list_names(t: &[u16], m: u32, n: u32, out: &mut [u8]) -> Piece
-    ensures { λ p. ⌜ Written (piece (now (t .entry)) m n (length (now (out .entry)))) (now (out .entry)) (now (out .exit)) p ⌝ }
-{
-    if !sound(t) {
-        return Piece { names: 0, bytes: 0 };
-    }
-    if MISSIONS <= m as usize {
-        return Piece { names: 0, bytes: 0 };
-    }
-    list_mission(t, m as usize, n, out)
 }

@@ -1,6 +1,7 @@
 -- `answer` meets its promise: what the line asks for is known in each branch, and what was written is the answer to it. Assumes nothing.
 use mathlib.Core.Path.{refl, sym, _∙_}
 use borrow.Author.Needs.{needs}
+use Rattle.lines.proofs.Answered.{call-answered}
 use Rattle.lines.proofs.replies.answer.Statement.{statement}
 use Rattle.lines.proofs.replies.answer.Tie as tie
 
@@ -13,8 +14,8 @@ enum-known-kind c = search needs
 name-of-requires : tie.Need-name-of-requires
 name-of-requires c κs = search needs
 
-make-requires : tie.Need-make-requires
-make-requires c κs = search needs
+call-requires : tie.Need-call-requires
+call-requires c κs = search needs
 
 put-answer-requires : tie.Need-put-answer-requires
 put-answer-requires c κs = search needs
@@ -34,10 +35,10 @@ same-length-2 c = search needs
 returns : tie.Need-returns
 returns c =
     let asked = sym (c .before .before .before .before .before .before .before .before .before .before .before .before .request-of .ensures) ∙ c .before .before .before .before .before .before .before .before .before .before .kind .given .1 in
-    let made = c .before .before .before .before .before .before .make in
+    let made = c .before .before .before .before .before .before .call in
     let named = c .before .before .before .before .before .before .before .name-of .ensures in
     let put = c .before .before .put-answer .ensures in
-    rw asked (_, (made .result, rw named at (made .ensures), refl), put .0, put .1)
+    call-answered (made .result) asked (rw named at (made .ensures)) (put .0) (put .1)
 
 same-length-3 : tie.Need-same-length-3
 same-length-3 c = search needs
@@ -46,7 +47,7 @@ returns-2 : tie.Need-returns-2
 returns-2 c =
     let asked = sym (c .before .before .before .before .before .before .request-of .ensures) ∙ c .before .before .before .before .enum-told .given .1 in
     let put = c .before .before .put-other .ensures in
-    rw asked (_, (refl, refl), put .0, put .1)
+    record { long = put .0 ∙ rw asked; buffer = put .1 ∙ rw asked; table = rw asked refl }
 
 pub answer-spec : {M : Type 1} → statement M
 answer-spec =
@@ -55,7 +56,7 @@ answer-spec =
     request-of-requires
     enum-known-kind
     name-of-requires
-    make-requires
+    call-requires
     put-answer-requires
     enum-told
     put-other-requires

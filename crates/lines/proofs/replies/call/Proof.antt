@@ -1,8 +1,7 @@
--- `make` meets its promise: in each branch the kind is known, and the call's own promise is the one asked for. Assumes nothing.
-use mathlib.Core.Path.{refl}
+-- `call` meets its promise: in each branch the kind is known, and the call's own promise is the one asked for. Assumes nothing.
 use borrow.Author.Needs.{needs}
-use Rattle.lines.proofs.replies.make.Statement.{statement}
-use Rattle.lines.proofs.replies.make.Tie as tie
+use Rattle.lines.proofs.replies.call.Statement.{statement}
+use Rattle.lines.proofs.replies.call.Tie as tie
 
 enum-told : tie.Need-enum-told
 enum-told c = search needs
@@ -44,28 +43,28 @@ same-length : tie.Need-same-length
 same-length c = search needs
 
 returns : tie.Need-returns
-returns c = rw (c .before .before .before .before .before .enum-told .given .1) (c .before .before .before .add .result, c .before .before .before .add .ensures, c .answer-reply .ensures)
+returns c = rw (c .before .before .before .before .before .enum-told .given .1) (rw (c .answer-reply .ensures) (c .before .before .before .add .ensures))
 
 same-length-2 : tie.Need-same-length-2
 same-length-2 c = search needs
 
 returns-2 : tie.Need-returns-2
-returns-2 c = rw (c .before .before .before .before .before .enum-told2 .given .1) (c .before .before .before .remove .result, c .before .before .before .remove .ensures, c .answer-reply2 .ensures)
+returns-2 c = rw (c .before .before .before .before .before .enum-told2 .given .1) (rw (c .answer-reply2 .ensures) (c .before .before .before .remove .ensures))
 
 same-length-3 : tie.Need-same-length-3
 same-length-3 c = search needs
 
 returns-3 : tie.Need-returns-3
-returns-3 c = rw (c .before .before .before .enum-told3 .given .1) (c .before .ask .result, c .before .ask .ensures, c .ask-reply .ensures, refl)
+returns-3 c = rw (c .before .before .before .enum-told3 .given .1) (rw (c .ask-reply .ensures) (c .before .ask .ensures))
 
 same-length-4 : tie.Need-same-length-4
 same-length-4 c = search needs
 
 returns-4 : tie.Need-returns-4
-returns-4 c = rw (c .before .before .before .enum-told4 .given .1) (c .before .count .result, c .before .count .ensures, c .answer-reply3 .ensures, refl)
+returns-4 c = rw (c .before .before .before .enum-told4 .given .1) (rw (c .answer-reply3 .ensures) (c .before .count .ensures))
 
-pub make-spec : {M : Type 1} → statement M
-make-spec =
+pub call-spec : {M : Type 1} → statement M
+call-spec =
     tie.close
     (tie.spec
     enum-told

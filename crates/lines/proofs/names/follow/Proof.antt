@@ -2,8 +2,8 @@
 use mathlib.Core.Path.{sym, _∙_}
 use borrow.Author.Needs.{needs}
 use Rattle.listing.proofs.Listed.{nothing-written}
-use Rattle.lines.proofs.replies.follow.Statement.{statement}
-use Rattle.lines.proofs.replies.follow.Tie as tie
+use Rattle.lines.proofs.names.follow.Statement.{statement}
+use Rattle.lines.proofs.names.follow.Tie as tie
 
 request-of-requires : tie.Need-request-of-requires
 request-of-requires c κs = search needs

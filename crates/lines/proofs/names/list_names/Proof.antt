@@ -6,9 +6,10 @@ use borrow.Author.Needs.{needs}
 use borrow.Author.Tests.{not-true, not-false}
 use Rattle.rows.specs.Rules.{sound}
 use Rattle.rows.proofs.Rules.{sound-facts}
-use Rattle.listing.proofs.Listed.{nothing-written, unsound-none, no-mission-none, listed-names}
-use Rattle.listing.proofs.pieces.list_names.Statement.{statement}
-use Rattle.listing.proofs.pieces.list_names.Tie as tie
+use Rattle.listing.proofs.Listed.{nothing-written}
+use Rattle.lines.proofs.Following.{unsound-none, no-mission-none, sound-names}
+use Rattle.lines.proofs.names.list_names.Statement.{statement}
+use Rattle.lines.proofs.names.list_names.Tie as tie
 
 sound-requires : tie.Need-sound-requires
 sound-requires c κs = search needs
@@ -38,7 +39,7 @@ same-length c = search needs
 returns-3 : tie.Need-returns-3
 returns-3 c =
     let s = c .before .before .before .before .before .before .before .before .before .args in
-    rw (listed-names (s .t .now) (s .m) (passed (c .before .before .before .before .before)) (omega arith)) (c .before .before .list-mission .ensures)
+    rw (sound-names (s .t .now) (s .m) (passed (c .before .before .before .before .before)) (omega arith)) (c .before .before .list-mission .ensures)
 
 pub list-names-spec : {M : Type 1} → statement M
 list-names-spec = tie.close (tie.spec sound-requires returns returns-2 list-mission-requires same-length returns-3)

@@ -1,10 +1,9 @@
--- `follow_call` meets its promise: what is listed of a mission is what its count says, and no names follow a line of another kind.
--- Assumes nothing.
+-- `follow_call` meets its promise: the kind is known in each branch, and no names follow a line of another kind than `L`. Assumes nothing.
 use borrow.Author.Needs.{needs}
 use Rattle.listing.proofs.Listed.{nothing-written}
-use Rattle.lines.proofs.Following.{listed-behind, others-none}
-use Rattle.lines.proofs.replies.follow_call.Statement.{statement}
-use Rattle.lines.proofs.replies.follow_call.Tie as tie
+use Rattle.lines.proofs.Following.{others-none}
+use Rattle.lines.proofs.names.follow_call.Statement.{statement}
+use Rattle.lines.proofs.names.follow_call.Tie as tie
 
 enum-told : tie.Need-enum-told
 enum-told c = search needs
@@ -16,7 +15,7 @@ same-length : tie.Need-same-length
 same-length c = search needs
 
 returns : tie.Need-returns
-returns c = rw (c .before .before .before .before .enum-told .given .1) (rw (listed-behind _ _) at (c .before .before .list-names .ensures))
+returns c = rw (c .before .before .before .before .enum-told .given .1) (c .before .before .list-names .ensures)
 
 returns-2 : tie.Need-returns-2
 returns-2 c = let start = c .before .before .before .args in nothing-written (start .n) (start .out .now) (others-none _ (start .m) (start .kind) (c .match .keys2))
