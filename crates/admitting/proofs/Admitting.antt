@@ -5,7 +5,6 @@ use native.Mathlib.Omega.{arith}
 use mathlib.Core.Path.{_≡_, refl, sym, _∙_}
 use mathlib.Core.Bool.{Bool, true, false, not, false≢true}
 use mathlib.Core.List.{List, [], _∷_, _++_}
-use lib.ListN.{drop}
 use borrow.Author.Tests.{not-false, ltb-false}
 use Rattle.model.specs.Lists.{lastMission, missions}
 use Rattle.model.specs.Call.{Book, Outcome}
@@ -132,14 +131,13 @@ refused-outcome : (b : Book) (n : ℕ) (done : Outcome) → 0 < n → outcome b 
 refused-outcome b zero done some = absurd (omega arith)
 refused-outcome b (suc n) done some = refl
 
--- Where a rule's refusals begin with these tests, it comes to what they say. That they begin so is asked of the number given: the rule's first k
--- refusals give what the tests give, and so it may have fewer or more of them.
-pub refused-first : (b : Book) (r : Rule) (tests : List Test) (k : ℕ) → given (r .refusals) ≡ given (tests ++ drop k (r .refusals))
+-- Where a rule's refusals begin with these tests, it comes to what they say. That they begin so is asked of the number given: the rule gives what
+-- the tests and some more give.
+pub refused-first : (b : Book) (r : Rule) (tests more : List Test) → given (r .refusals) ≡ given (tests ++ more)
     → {a : Admission} {why : Refusal} → a ≡ Refused why → admissionNumber a ≡ given tests → ruled b r ≡ refused (refusalNumber why) b
-refused-first b r tests k begins {a} {why} told e =
+refused-first b r tests more begins {a} {why} told e =
     let number : refusalNumber why ≡ given tests = rw told at e in
-    let same : given (r .refusals) ≡ refusalNumber why =
-    begins ∙ given-first tests (drop k (r .refusals)) (omega (arith, refusal-positive why)) ∙ sym number in
+    let same : given (r .refusals) ≡ refusalNumber why = begins ∙ given-first tests more (omega (arith, refusal-positive why)) ∙ sym number in
     rw same (refused-outcome b (refusalNumber why) _ (refusal-positive why))
 
 -- Where the tests are all that the rule has, and pass, the call is done.

@@ -71,10 +71,11 @@ pub set-refused : (t : Table) (on : Bool) (m : ℕ) (name : List ℕ) {a : Admis
     → admissionNumber a ≡ given (firstTests (bookOf t) m (ifFine (isName name) Name)) → Changes t t (setCall on m name) (answerReply (answer.Refused r))
 set-refused t on m name {a} {r} told e =
     let b = bookOf t in
+    let more = drop 4 (setRule on b m name .refusals) in
     refused-changes t (setCall on m name) r
     (set-ruled b on m name
-    ∙ refused-first b (setRule on b m name) (firstTests b m (ifFine (isName name) Name)) 4
-    (first-begins b m (isName name) Name (drop 4 (setRule on b m name .refusals))) told e)
+    ∙ refused-first b (setRule on b m name) (firstTests b m (ifFine (isName name) Name)) more
+    (first-begins b m (isName name) Name more) told e)
 
 module _ (t : Table) (s : sound t ≡ true) (m : ℕ) (h : m < missions) where
   abbrev list : Words

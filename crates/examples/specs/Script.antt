@@ -9,13 +9,13 @@ use Rattle.letters.specs.Words.{wordOf, same}
 use Rattle.letters.specs.Each.{every}
 use Rattle.sets.specs.Residuals.{alike}
 use Rattle.model.specs.Lists.{listOf, emptyLists}
-use Rattle.model.specs.Call.{Call, Book, Outcome}
+use Rattle.model.specs.Call.{Call, Book, Outcome, bookWith}
 use Rattle.model.specs.Run.{run}
 use Rattle.examples.specs.Text.{bytes}
 
 -- what is done and what must come of it
 pub data Step : Type 0 where
-  -- a call, its number and its value
+  -- a call, its number and its value; it has no second one
   gives : Call → ℕ → ℕ → Step
   -- a call that is done with two values
   pair : Call → ℕ → ℕ → Step
@@ -28,20 +28,16 @@ pub record Script : Type 0 where
   pub room : ℕ
   pub steps : List Step
 
--- an empty book
-abbrev fresh : ℕ → Book
-fresh room = record { lengthOk = true; sound = true; room = room; lists = emptyLists }
-
 -- the book after a call
 abbrev bookAfter : Book → Outcome → Book
-bookAfter b o = record { lengthOk = true; sound = true; room = b .room; lists = o .lists }
+bookAfter b o = bookWith (b .room) (o .lists)
 
 -- does every step come out as it must?
 unfoldable pub passes : Book → List Step → Bool
 passes b [] = true
 passes b (gives call number value ∷ steps) =
     let o = run b call in
-    eqb (o .number) number && (eqb (o .value) value && passes (bookAfter b o) steps)
+    eqb (o .number) number && (eqb (o .value) value && (eqb (o .second) 0 && passes (bookAfter b o) steps))
 passes b (pair call value second ∷ steps) =
     let o = run b call in
     eqb (o .number) 0 && (eqb (o .value) value && (eqb (o .second) second && passes (bookAfter b o) steps))
@@ -52,4 +48,4 @@ passes b (writes call name ∷ steps) =
 passes b (holds m names ∷ steps) = alike (listOf (b .lists) m) (map (λ name. wordOf (bytes name)) names) && passes b steps
 
 abbrev pub passesAll : List Script → Bool
-passesAll scripts = every (λ s. passes (fresh (s .room)) (s .steps)) scripts
+passesAll scripts = every (λ s. passes (bookWith (s .room) emptyLists) (s .steps)) scripts

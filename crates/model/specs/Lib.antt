@@ -1,4 +1,4 @@
--- The thirteen calls on sixteen plain sets of names. Nothing here knows of rows. Assumes nothing.
+-- The calls on sixteen plain sets of names. Nothing here knows of rows. Assumes nothing.
 pub mod Lists
 pub mod Call
 pub mod Refusals

@@ -1,1 +1,1 @@
-// The thirteen calls on sixteen plain sets of names: definitions, no code.
+// The calls on sixteen plain sets of names: definitions, no code.

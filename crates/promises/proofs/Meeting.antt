@@ -15,7 +15,8 @@ use Rattle.promises.specs.Walks.{askWalk, nextWalk}
 use Rattle.promises.specs.Promises.{outcomeOf, replyTo, Becomes, Changes, Leaves, Promised}
 use Rattle.promises.proofs.Outcomes.{ruled-either}
 
-abbrev hasBuffer : Call → Bool
+-- is the call lent an answer buffer?
+abbrev pub hasBuffer : Call → Bool
 hasBuffer (nth m n size) = true
 hasBuffer empty = false
 hasBuffer check = false

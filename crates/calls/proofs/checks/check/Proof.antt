@@ -1,5 +1,6 @@
 -- `check` meets its promise: its two tests are all there is. Assumes nothing.
 use mathlib.Core.Path.{refl, sym, ap}
+use mathlib.Core.List.{[]}
 use borrow.Author.Needs.{needs}
 use Rattle.model.specs.Call.Call.{check}
 use Rattle.model.specs.Run.{rule, run}
@@ -34,7 +35,7 @@ returns-2 c =
     let tested = c .before .before .before in
     let t = tested .before .before .args .t .now in
     promises-refused t check (c .before .r .given .0 .0) refl refl
-    (refused-first (bookOf t) (rule (bookOf t) check) (bookTests (bookOf t)) 2 refl (c .before .r .given .1) (tested .admit-book .ensures))
+    (refused-first (bookOf t) (rule (bookOf t) check) (bookTests (bookOf t)) [] refl (c .before .r .given .1) (tested .admit-book .ensures))
 
 pub check-spec : {M : Type 1} → statement M
 check-spec = tie.close (tie.spec admit-book-requires enum-told enum-known-r returns returns-2)

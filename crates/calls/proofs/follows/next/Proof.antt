@@ -1,15 +1,13 @@
 -- `next` meets its promise: its first tests are all that can refuse it, and then the arcs at the end of the walk answer. Assumes nothing.
-use mathlib.Core.Path.{_≡_, refl, sym, _∙_, ap}
+use mathlib.Core.Path.{_≡_, refl, sym, _∙_}
 use borrow.Author.Needs.{needs}
 use Rattle.letters.specs.Names.{isPrefix}
 use Rattle.model.specs.Call.Call.{next}
 use Rattle.answers.specs.declared.cases.Refusal.the-variants.{Name}
-use Rattle.answers.specs.Replies.{replyOf}
-use Rattle.promises.specs.Books.{bookOf}
 use Rattle.promises.specs.Walks.{nextWalk}
-use Rattle.promises.proofs.Meeting.{promises, promises-refused}
-use Rattle.admitting.specs.Admission.{ifFine, walkTests}
-use Rattle.admitting.proofs.Admitting.{fine-true, walk-begins, walk-admitted, done-first, refused-first}
+use Rattle.admitting.specs.Admission.{ifFine}
+use Rattle.admitting.proofs.Admitting.{fine-true, walk-admitted}
+use Rattle.calls.proofs.Walking.{Walked, walk-done, walk-refused}
 use Rattle.calls.proofs.follows.next.Statement.{statement}
 use Rattle.calls.proofs.follows.next.Tie as tie
 
@@ -29,6 +27,11 @@ enum-told c = search needs
 found : (c : tie.After-if-fine) → c .if-fine .result ≡ ifFine (isPrefix (c .before .before .before .before .args .prefix .now)) Name
 found c = c .if-fine .ensures ∙ rw (c .before .is-prefix .ensures)
 
+walked : (c : tie.After-if-fine) →
+    let args = c .before .before .before .before .args in
+    Walked (args .t .now) (args .m) (isPrefix (args .prefix .now)) (next (args .m) (args .prefix .now)) (nextWalk (args .t .now) (args .m) (args .prefix .now))
+walked c = record { bare = refl; leaves = refl; comes = refl; refusals = refl }
+
 next-walk-requires : tie.Need-next-walk-requires
 next-walk-requires c κs =
     let tested = c .before .before in
@@ -40,27 +43,13 @@ enum-known-r c = search needs
 
 returns : tie.Need-returns
 returns c =
-    let told = c .before in
-    let tested = told .before .before in
-    let args = tested .before .before .before .before .before .args in
-    let t = args .t .now in
-    let prefix = args .prefix .now in
-    let number = rw (found (tested .before)) at (tested .admit-walk .ensures) in
-    let done = done-first (bookOf t) (nextWalk t (args .m) prefix) (walkTests (bookOf t) (args .m) (ifFine (isPrefix prefix) Name))
-    (walk-begins (bookOf t) (args .m) (isPrefix prefix) Name) (told .enum-told .given .1) number
-    in
-    promises t t (next (args .m) prefix) _ refl refl (c .next-walk .ensures ∙ sym (ap replyOf done))
+    let tested = c .before .before .before in
+    walk-done (walked (tested .before)) _ _ (found (tested .before)) (tested .admit-walk .ensures) (c .before .enum-told .given .1) _ (c .next-walk .ensures)
 
 returns-2 : tie.Need-returns-2
 returns-2 c =
     let tested = c .before .before .before in
-    let args = tested .before .before .before .before .before .args in
-    let t = args .t .now in
-    let prefix = args .prefix .now in
-    let number = rw (found (tested .before)) at (tested .admit-walk .ensures) in
-    promises-refused t (next (args .m) prefix) (c .before .r .given .0 .0) refl refl
-    (refused-first (bookOf t) (nextWalk t (args .m) prefix) (walkTests (bookOf t) (args .m) (ifFine (isPrefix prefix) Name)) 3
-    (walk-begins (bookOf t) (args .m) (isPrefix prefix) Name) (c .before .r .given .1) number)
+    walk-refused (walked (tested .before)) _ _ (found (tested .before)) (tested .admit-walk .ensures) (c .before .r .given .0 .0) (c .before .r .given .1)
 
 pub next-spec : {M : Type 1} → statement M
 next-spec =

@@ -2,6 +2,7 @@
 use mathlib.Core.Path.{_≡_, refl, sym, _∙_, ap}
 use mathlib.Core.Bool.{true}
 use native.Mathlib.Omega.{arith}
+use mathlib.Core.List.{[]}
 use borrow.Author.Needs.{needs}
 use Rattle.model.specs.Call.Call.{used}
 use Rattle.model.specs.Run.{rule, run}
@@ -51,7 +52,7 @@ returns-2 c =
     let tested = c .before .before .before in
     let t = tested .before .before .args .t .now in
     promises-refused t used (c .before .r .given .0 .0) refl refl
-    (refused-first (bookOf t) (rule (bookOf t) used) (bookTests (bookOf t)) 2 refl (c .before .r .given .1) (tested .admit-book .ensures))
+    (refused-first (bookOf t) (rule (bookOf t) used) (bookTests (bookOf t)) [] refl (c .before .r .given .1) (tested .admit-book .ensures))
 
 pub used-spec : {M : Type 1} → statement M
 used-spec =

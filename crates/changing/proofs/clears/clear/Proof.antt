@@ -1,6 +1,7 @@
 -- `clear` meets its promise: its first tests refuse it, or leave a sound book with its index, and a mission. Assumes nothing.
 use mathlib.Core.Path.{refl}
 use borrow.Author.Needs.{needs}
+use lib.ListN.{drop}
 use Rattle.model.specs.Call.Call.{clear}
 use Rattle.model.specs.Run.{rule, run}
 use Rattle.promises.specs.Books.{bookOf}
@@ -51,7 +52,7 @@ returns-2 c =
     let b = bookOf (args .t .now) in
     promises-change _ _ (clear (args .m)) _ refl (λ p. p) refl
     (refused-changes (args .t .now) (clear (args .m)) (c .before .r .given .0 .0)
-    (refused-first b (rule b (clear (args .m))) (firstTests b (args .m) Admitted) 3 refl (c .before .r .given .1) (tested .admit-indexed .ensures .0)))
+    (refused-first b (rule b (clear (args .m))) (firstTests b (args .m) Admitted) (drop 3 (rule b (clear (args .m)) .refusals)) refl (c .before .r .given .1) (tested .admit-indexed .ensures .0)))
 
 pub clear-spec : {M : Type 1} → statement M
 clear-spec =

@@ -2,6 +2,7 @@
 use mathlib.Core.Path.{_≡_, refl, sym, _∙_}
 use native.Mathlib.Omega.{arith}
 use borrow.Author.Needs.{needs}
+use lib.ListN.{drop}
 use Rattle.model.specs.Call.Call.{combine}
 use Rattle.model.specs.Refusals.{isOperation}
 use Rattle.model.specs.Run.{rule, run}
@@ -80,7 +81,7 @@ returns-2 c =
     let call = combine (args .op) (args .a) (args .b) (args .c) in
     promises-change _ _ call _ refl (λ p. p) refl
     (refused-changes (args .t .now) call (c .before .r .given .0 .0)
-    (refused-first b (rule b call) (firstTests b (highest (args .a) (args .b) (args .c)) (ifFine (isOperation (args .op)) Operation)) 6
+    (refused-first b (rule b call) (firstTests b (highest (args .a) (args .b) (args .c)) (ifFine (isOperation (args .op)) Operation)) (drop 6 (rule b call .refusals))
     (combine-begins (args .t .now) (args .op) (args .a) (args .b) (args .c)) (c .before .r .given .1)
     (rw (asked .before .before .highest .ensures, found asked) at (tested .admit-indexed .ensures .0))))
 

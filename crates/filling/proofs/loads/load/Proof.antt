@@ -70,9 +70,10 @@ returns-2 c =
     let b = bookOf (args .t .now) in
     let call = load (args .m) (args .list .now) in
     let fine = isList (args .list .now) in
+    let more = drop 4 (rule b call .refusals) in
     promises-change _ _ call _ refl (λ p. p) refl
     (refused-changes (args .t .now) call (c .before .r .given .0 .0)
-    (refused-first b (rule b call) (firstTests b (args .m) (ifFine fine List)) 4 (first-begins b (args .m) fine List (drop 4 (rule b call .refusals)))
+    (refused-first b (rule b call) (firstTests b (args .m) (ifFine fine List)) more (first-begins b (args .m) fine List more)
     (c .before .r .given .1) (rw (found asked) at (tested .admit-indexed .ensures .0))))
 
 pub load-spec : {M : Type 1} → statement M

@@ -1,6 +1,7 @@
 -- `count` meets its promise: its first tests refuse it, or leave a sound book and a mission. Assumes nothing.
 use mathlib.Core.Path.{refl}
 use borrow.Author.Needs.{needs}
+use lib.ListN.{drop}
 use Rattle.model.specs.Call.Call.{count}
 use Rattle.model.specs.Run.{rule, run}
 use Rattle.promises.specs.Books.{bookOf}
@@ -35,7 +36,7 @@ returns-2 c =
     let args = tested .before .before .args in
     let b = bookOf (args .t .now) in
     promises-refused (args .t .now) (count (args .m)) (c .before .r .given .0 .0) refl refl
-    (refused-first b (rule b (count (args .m))) (firstTests b (args .m) Admitted) 3 refl (c .before .r .given .1) (tested .admit .ensures))
+    (refused-first b (rule b (count (args .m))) (firstTests b (args .m) Admitted) (drop 3 (rule b (count (args .m)) .refusals)) refl (c .before .r .given .1) (tested .admit .ensures))
 
 pub count-spec : {M : Type 1} → statement M
 count-spec = tie.close (tie.spec admit-requires enum-told count-list-requires enum-known-r returns returns-2)

@@ -49,8 +49,9 @@ returns-2 c =
     let b = bookOf (args .t .now) in
     let call = rank (args .m) (args .name .now) in
     let fine = isName (args .name .now) in
+    let more = drop 4 (rule b call .refusals) in
     promises-refused (args .t .now) call (c .before .r .given .0 .0) refl refl
-    (refused-first b (rule b call) (firstTests b (args .m) (ifFine fine Name)) 4 (first-begins b (args .m) fine Name (drop 4 (rule b call .refusals))) (c .before .r .given .1)
+    (refused-first b (rule b call) (firstTests b (args .m) (ifFine fine Name)) more (first-begins b (args .m) fine Name more) (c .before .r .given .1)
     (rw (found (tested .before)) at (tested .admit .ensures)))
 
 pub rank-spec : {M : Type 1} → statement M

@@ -49,8 +49,9 @@ returns-2 c =
     let b = bookOf (args .t .now) in
     let call = nth (args .m) (args .n) size in
     let fine = leb longest size in
+    let more = drop 4 (rule b call .refusals) in
     nth-refused _ _ _ _ (c .before .r .given .0 .0)
-    (refused-first b (rule b call) (firstTests b (args .m) (ifFine fine Buffer)) 4 (rw (over-most longest size) (first-begins b (args .m) fine Buffer (drop 4 (rule b call .refusals))))
+    (refused-first b (rule b call) (firstTests b (args .m) (ifFine fine Buffer)) more (rw (over-most longest size) (first-begins b (args .m) fine Buffer more))
     (c .before .r .given .1) (rw (tested .before .if-fine .ensures) at (tested .admit .ensures)))
 
 pub nth-spec : {M : Type 1} → statement M
