@@ -4,7 +4,7 @@ use libc::STDIN_FILENO;
 use libc::STDOUT_FILENO;
 use lines::INPUT;
 use lines::NUMBERS;
-use lines::OUTPUT;
+use lines::OUT;
 use lines::beginning;
 use lines::step;
 
@@ -12,7 +12,7 @@ fn main() {
     let mut input = [0u8; INPUT];
     let long = io::read_full(STDIN_FILENO, &mut input);
     let mut t = [0u16; NUMBERS];
-    let mut out = [0u8; OUTPUT];
+    let mut out = [0u8; OUT];
     let mut place = beginning();
     while !place.over {
         place = step(&mut t, &input[..long], place, &mut out);

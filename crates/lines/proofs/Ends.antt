@@ -7,15 +7,12 @@ use mathlib.Core.List.{List, [], _∷_}
 use borrow.Author.Tests.{ne-eqb}
 use lib.Dec.{eqb}
 use lib.ListN.{length}
-use Rattle.letters.specs.Lists.{nameEnd}
 use Rattle.sets.specs.Sets.{Words}
 use Rattle.sets.specs.Cut.{mostNames}
 use Rattle.rows.specs.Table.{Table}
-use Rattle.listing.specs.Pieces.{lines}
 use Rattle.lines.specs.declared.steps.Place.{Place}
 use Rattle.lines.specs.declared.steps.Stage.the-variants.{First, Line}
-use Rattle.lines.specs.Promises.{saidTo}
-use Rattle.lines.specs.Steps.{overAfter, lineAt, nextNames, nextPiece, Does, Steps}
+use Rattle.lines.specs.Steps.{firstLine, overAfter, lineAt, nextLine, nextNames, nextPiece, stageNext, Does, Steps}
 use Rattle.lines.proofs.Following.{following-inside}
 use Rattle.lines.proofs.Stages.{Lines, by-stage}
 
@@ -39,12 +36,6 @@ module _ (input : List ℕ) (place : Place) (going : place .over ≡ false) wher
   lines-left : 0 < place .line → stepsLeft input place ≡ suc (ahead input place)
   lines-left some = rw (going, ne-eqb (place .line) 0 (λ e. omega arith))
 
--- and at a place that is made
-made-left : (input : List ℕ) (at line names bytes : ℕ) → 0 < line
-    → stepsLeft input (record { at = at; line = line; names = names; bytes = bytes; over = false })
-    ≡ suc ((length input - at) * lineSteps + (mostNames + 1 - names))
-made-left input at line names bytes some = rw (ne-eqb line 0 (λ e. omega arith))
-
 less-by : {x y a b : ℕ} → x ≡ suc a → y ≡ suc b → a < b → x < y
 less-by e f h = omega arith
 
@@ -56,22 +47,22 @@ module _ (t after : Table) (input : List ℕ) (place : Place) (before filled : L
   less-over k e = rw e (some-left input place going)
 
   first : place .line ≡ 0 → Does First t after input place before filled next → Less
-  first none p = less-by (ap (stepsLeft input) (p .next) ∙ made-left input 0 1 0 0 (omega arith)) (first-left input place going none) (omega arith)
+  first none p = less-by (ap (stepsLeft input) (p .next) ∙ lines-left input firstLine refl (omega arith)) (first-left input place going none) (omega arith)
 
   line : Lines t input place (length before) → place .names ≡ 0 → Does Line t after input place before filled next → Less
   line l none p =
-      less-by (ap (stepsLeft input) (p .next) ∙ made-left input (place .at) (place .line) 1 (length (saidTo t (lineAt input place) (place .line))) (l .numbered))
+      less-by (ap (stepsLeft input) (p .next) ∙ lines-left input (stageNext t input place (length before) Line) refl (l .numbered))
       (lines-left input place going (l .numbered)) (omega arith)
 
   piece : Lines t input place (length before) → place .at < length input → 0 < place .names → (l : Words)
       → nextPiece t input place (length before) ≡ l → next ≡ nextNames input place l → Less
   piece l h named [] e n =
-      less-by (ap (stepsLeft input) n ∙ made-left input (nameEnd input (place .at) + 1) (place .line + 1) 0 0 (omega arith))
+      less-by (ap (stepsLeft input) n ∙ lines-left input (nextLine input place) refl (omega arith))
       (lines-left input place going (l .numbered)) (omega (arith, l .ready .names))
   piece l h named (w ∷ ws) e n =
       let inside = following-inside t (lineAt input place) (place .names - 1) (length before) (omega (arith, l .ready .names)) in
       let few : length (nextPiece t input place (length before)) ≡ length (w ∷ ws) = rw e in
-      less-by (ap (stepsLeft input) n ∙ made-left input (place .at) (place .line) (place .names + length (w ∷ ws)) (length (lines (w ∷ ws))) (l .numbered))
+      less-by (ap (stepsLeft input) n ∙ lines-left input (nextNames input place (w ∷ ws)) refl (l .numbered))
       (lines-left input place going (l .numbered)) (omega arith)
 
   less : Steps t after input place before filled next → Less

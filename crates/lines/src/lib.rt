@@ -7,7 +7,7 @@ mod steps;
 
 pub use steps::INPUT;
 pub use steps::NUMBERS;
-pub use steps::OUTPUT;
+pub use steps::OUT;
 pub use steps::Place;
 pub use steps::beginning;
 pub use steps::step;

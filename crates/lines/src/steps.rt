@@ -30,7 +30,7 @@ pub const NUMBERS: usize = ROWS * WIDTH;
 const SPARE: usize = 43;
 
 // The longest line and its answer.
-pub const OUTPUT: usize = MOST_INPUT + SPARE;
+pub const OUT: usize = MOST_INPUT + SPARE;
 
 // Where the program stands.
 pub struct Place {
@@ -89,7 +89,7 @@ fn is_place(place: Place) -> bool
 fn is_ready(t: &[u16], place: Place, size: usize) -> bool
     ensures { λ b. ⌜ b ≡ ready (now (t .entry)) place size ⌝ }
 {
-    ((t.len() == NUMBERS) & (OUTPUT <= size)) & (is_place(place) & !place.over)
+    ((t.len() == NUMBERS) & (OUT <= size)) & (is_place(place) & !place.over)
 }
 
 fn stage_of(t: &[u16], input: &[u8], place: Place, size: usize) -> Stage

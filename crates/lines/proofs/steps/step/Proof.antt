@@ -5,19 +5,22 @@ use mathlib.Core.Path.{_≡_, refl, sym, _∙_}
 use borrow.Author.Needs.{needs}
 use lib.ListN.{length}
 use Rattle.lines.specs.declared.steps.Stage.{Stage}
+use Rattle.lines.specs.Steps.{stageOf}
 use Rattle.lines.proofs.Stages.{Given, given}
 use Rattle.lines.proofs.steps.step.Statement.{statement}
 use Rattle.lines.proofs.steps.step.Tie as tie
 
--- what is known of the stage that was found
+-- the stage that was found, and what is known of it
 abbrev start : tie.After-stage-of → tie.Start
 start c = c .before .before .before .before .before
 
+found : (c : tie.After-stage-of) {stage : Stage} → c .stage-of .result ≡ stage
+    → let s = start c .args in stageOf (s .t .now) (s .input .now) (s .place) (length (s .out .now)) ≡ stage
+found c told = sym (c .stage-of .ensures) ∙ told
+
 known : (c : tie.After-stage-of) {stage : Stage} → c .stage-of .result ≡ stage
     → let s = start c .args in Given (s .t .now) (s .input .now) (s .place) (length (s .out .now)) stage
-known c told =
-    let s = start c .args in
-    given (s .t .now) (s .input .now) (s .place) (length (s .out .now)) (sym (c .stage-of .ensures) ∙ told)
+known c told = let s = start c .args in given (s .t .now) (s .input .now) (s .place) (length (s .out .now)) (found c told)
 
 stage-of-requires : tie.Need-stage-of-requires
 stage-of-requires c κs = search needs
@@ -72,7 +75,7 @@ same-length c = search needs
 returns : tie.Need-returns
 returns c =
     let told = c .before in
-    let stage = sym (told .before .before .stage-of .ensures) ∙ told .enum-told .given .1 in
+    let stage = found (told .before .before) (told .enum-told .given .1) in
     rw stage (record { next = c .over-after .ensures; buffer = refl; table = refl })
 
 same-length-2 : tie.Need-same-length-2
@@ -85,7 +88,7 @@ returns-2 : tie.Need-returns-2
 returns-2 c =
     let spoken = c .before .before .before in
     let told = spoken .before .before in
-    let stage = sym (told .before .before .stage-of .ensures) ∙ told .enum-told2 .given .1 in
+    let stage = found (told .before .before) (told .enum-told2 .given .1) in
     let (long, buffer) = spoken .say-long .ensures in
     rw stage (record { next = c .over-after2 .ensures ∙ rw long; buffer = buffer; table = refl })
 
@@ -96,7 +99,7 @@ returns-3 : tie.Need-returns-3
 returns-3 c =
     let begun = c .before .before in
     let told = begun .before .before in
-    let stage = sym (told .before .before .stage-of .ensures) ∙ told .enum-told3 .given .1 in
+    let stage = found (told .before .before) (told .enum-told3 .given .1) in
     let (place, table) = begun .begin .ensures in
     rw stage (record { next = place; buffer = refl; table = table })
 
@@ -110,7 +113,7 @@ returns-4 : tie.Need-returns-4
 returns-4 c =
     let answered = c .before .before .before .before in
     let told = answered .before .before .before in
-    let stage = sym (told .before .before .stage-of .ensures) ∙ told .enum-told4 .given .1 in
+    let stage = found (told .before .before) (told .enum-told4 .given .1) in
     rw stage (answered .answer-line .ensures)
 
 same-length-7 : tie.Need-same-length-7
@@ -123,7 +126,7 @@ returns-5 : tie.Need-returns-5
 returns-5 c =
     let listed = c .before .before in
     let told = listed .before .before .before in
-    let stage = sym (told .before .before .stage-of .ensures) ∙ told .enum-told5 .given .1 in
+    let stage = found (told .before .before) (told .enum-told5 .given .1) in
     rw stage (listed .list-line .ensures)
 
 pub step-spec : {M : Type 1} → statement M
