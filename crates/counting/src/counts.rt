@@ -63,7 +63,11 @@ pub fn words_ahead(t: &[u16], r: usize, x: usize, counts: &[u16]) -> u32
 fn cut(n: u32) -> u16
     ensures { λ r. ⌜ r ≡ cut n ⌝ }
 {
-    if n <= MOST_NAMES as u32 { n as u16 } else { MOST_NAMES + 1 }
+    if n <= MOST_NAMES as u32 {
+        n as u16
+    } else {
+        MOST_NAMES + 1
+    }
 }
 
 // How many words there are from n, cut; counts n, and so every row that is reached from it. Each row
