@@ -1,5 +1,5 @@
--- 01, "Rows": the table is one slice of numbers, and this is how a row is read. Nothing above the rows looks into these definitions.
--- Assumes nothing.
+-- 01, "Rows": the table is one slice of numbers, and this is how a row is read. The crates of the rows layer (README, "How the crates lie") go by
+-- these names; "nothing above the rows reads a row except through its rules". Assumes nothing.
 use Prim.Native.Nat.{ℕ, _+_, _-_, _*_, _/_, _%_}
 use mathlib.Core.Bool.{Bool, _&&_}
 use mathlib.Core.List.{List}

@@ -1,6 +1,7 @@
-// The rows, reading half: the table's length and room, and a row's numbers by name. Each promise is
-// an equation with a definition of specs/. Whoever is above goes by those names and by the laws of
-// proofs/, and never by the place of a number in the slice.
+// The rows, reading half: the table's length and room, and a row's numbers by name. Each promise is an equation
+// with a definition of specs/. The other crates of the rows layer (README, "How the crates lie") go by those
+// names and by the laws of proofs/; where in the slice a number stands only `growing` and `settling` know
+// besides, which write rows. The calls look into no row.
 mod fill;
 mod skips;
 mod table;
