@@ -18,7 +18,7 @@ ghost use Rattle.lines.specs.Steps.{deskNumbers, mostInput, tooLong, beg
 // "at most 8,192 bytes".
 const MOST_INPUT: usize = 8192;
 
-// One byte more tells that there are more.
+// So many bytes are read: one more than there may be tells that there are more.
 pub const INPUT: usize = MOST_INPUT + 1;
 
 // "a book of room 486", and the 26 rows beside the room.
@@ -98,7 +98,7 @@ fn stage_of(t: &[u16], input: &[u8], place: Place, size: usize) -> Stage
     if !is_ready(t, place, size) {
         return Stage::Over;
     }
-    if MOST_INPUT < input.len() {
+    if INPUT <= input.len() {
         return Stage::Long;
     }
     if place.line == 0 {
