@@ -26,12 +26,12 @@ use Rattle.promises.proofs.Outcomes.{Kind, kind, emptied}
 use Rattle.promises.proofs.Outcomes.Kind.{empties, reads, changes}
 
 -- a slice of a right length that was made an empty book
-pub record EmptyBook (t after : Table) : Type 0 where
-  pub fine : sound after ≡ true
-  pub long : length after ≡ length t
-  pub none : lists after ≡ emptyLists
+record EmptyBook (t after : Table) : Type 0 where
+  fine : sound after ≡ true
+  long : length after ≡ length t
+  none : lists after ≡ emptyLists
 
-pub zeros-empty : (t after : Table) → lengthOk t ≡ true → after ≡ replicate (length t) 0 → EmptyBook t after
+zeros-empty : (t after : Table) → lengthOk t ≡ true → after ≡ replicate (length t) 0 → EmptyBook t after
 zeros-empty t after fine e =
     record {
       fine = rw e (zeros-sound t fine);
