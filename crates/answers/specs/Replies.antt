@@ -27,27 +27,27 @@ refusalNumber NotUnder = 10
 refusalNumber NoRoom = 11
 
 -- "Each call answers a number and a value"; next also a second value, which is 0 of every other call
-abbrev pub done : ℕ → Reply
-done value = record { number = 0; value = value; second = 0 }
+abbrev pub doneReply : ℕ → Reply
+doneReply value = record { number = 0; value = value; second = 0 }
 
 -- "A refusal has value 0 (next: both values 0)"
-abbrev pub refused : Refusal → Reply
-refused r = record { number = refusalNumber r; value = 0; second = 0 }
+abbrev pub refusedReply : Refusal → Reply
+refusedReply r = record { number = refusalNumber r; value = 0; second = 0 }
 
 abbrev pub answerReply : Answer → Reply
-answerReply (answer.Done value) = done value
-answerReply (answer.Refused r) = refused r
+answerReply (answer.Done value) = doneReply value
+answerReply (answer.Refused r) = refusedReply r
 
 -- "ask 1 or 0."
 abbrev pub askReply : Asked → Reply
-askReply asked.OnList = done 1
-askReply asked.NotOnList = done 0
-askReply (asked.Refused r) = refused r
+askReply asked.OnList = doneReply 1
+askReply asked.NotOnList = doneReply 0
+askReply (asked.Refused r) = refusedReply r
 
 -- next's values: the letters that may follow as a sum, and their number
 abbrev pub nextReply : Following → Reply
 nextReply (following.Letters set count) = record { number = 0; value = set; second = count }
-nextReply (following.Refused r) = refused r
+nextReply (following.Refused r) = refusedReply r
 
 -- what the model says
 abbrev pub replyOf : Outcome → Reply

@@ -4,7 +4,7 @@ use super::cases::Asked;
 use super::cases::Following;
 use super::cases::Refusal;
 ghost use mathlib.Core.Path.{_≡_};
-ghost use Rattle.answers.specs.Replies.{refusalNumber, done, refused, answerReply, askReply, nextReply};
+ghost use Rattle.answers.specs.Replies.{refusalNumber, doneReply, refusedReply, answerReply, askReply, nextReply};
 
 // "Each call answers a number and a value"; next also a second value, which is 0 of every other call.
 pub struct Reply {
@@ -33,7 +33,7 @@ pub fn refusal_number(r: Refusal) -> u32
 }
 
 fn refused(r: Refusal) -> Reply
-    ensures { λ n. ⌜ n ≡ refused r ⌝ }
+    ensures { λ n. ⌜ n ≡ refusedReply r ⌝ }
 {
     Reply {
         number: refusal_number(r),
@@ -43,7 +43,7 @@ fn refused(r: Refusal) -> Reply
 }
 
 fn done(value: u32) -> Reply
-    ensures { λ r. ⌜ r ≡ done value ⌝ }
+    ensures { λ r. ⌜ r ≡ doneReply value ⌝ }
 {
     Reply {
         number: 0,

@@ -12,7 +12,7 @@ use Rattle.rows.specs.Table.{Table}
 use Rattle.answers.specs.declared.cases.Refusal.{Refusal}
 use Rattle.answers.specs.declared.cases.Refusal.the-variants.{Name}
 use Rattle.answers.specs.declared.replies.Reply.{Reply}
-use Rattle.answers.specs.Replies.{refused, replyOf}
+use Rattle.answers.specs.Replies.{refusedReply, replyOf}
 use Rattle.promises.specs.Books.{bookOf}
 use Rattle.promises.specs.Promises.{outcomeOf, Leaves, Promised}
 use Rattle.promises.proofs.Meeting.{hasBuffer, promises, promises-refused}
@@ -40,7 +40,7 @@ module _ {t : Table} {m : ℕ} {fine : Bool} {call : Call} {r : Rule} (w : Walke
       let done = done-first (bookOf t) r (walkTests (bookOf t) m (ifFine fine Name)) (begins w) told (rw e at number) in
       promises t t call reply (w .bare) (w .leaves) (said ∙ sym (ap replyOf (w .comes ∙ done)))
 
-  pub walk-refused : (why : Refusal) → a ≡ Refused why → Promised t t [] [] call (refused why)
+  pub walk-refused : (why : Refusal) → a ≡ Refused why → Promised t t [] [] call (refusedReply why)
   walk-refused why told =
       promises-refused t call why (w .bare) (w .leaves)
       (w .comes ∙ refused-first (bookOf t) r (walkTests (bookOf t) m (ifFine fine Name)) [] (begins w) told (rw e at number))

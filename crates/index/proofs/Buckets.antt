@@ -12,10 +12,10 @@ use Rattle.rows.specs.Table.{Table, rowCount, mark}
 use Rattle.rows.specs.Tidy.{Used}
 use Rattle.sets.specs.Below.{total}
 use Rattle.sets.proofs.Below.{total-agree}
-use Rattle.index.specs.Buckets.{radix, factor, mix, productBound, keyOf, rowKey, bucketOf, bucket, buckets}
+use Rattle.index.specs.Buckets.{modulus, factor, mix, productBound, keyOf, rowKey, bucketOf, bucket, buckets}
 
 -- a number of the table times a factor
-pub product-small : (n f : ℕ) → n < 65536 → f < radix → n * f < productBound
+pub product-small : (n f : ℕ) → n < 65536 → f < modulus → n * f < productBound
 product-small n f small low = omega (arith, mul-le-mul-left n (le-of-lt low))
 
 pub same-key : (k : ℕ) (f g : ℕ → ℕ) → ((x : ℕ) → x < letters → f x ≡ g x) → keyOf k f ≡ keyOf k g

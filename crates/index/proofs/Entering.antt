@@ -15,7 +15,7 @@ use Rattle.rows.specs.Table.{Table, mostRows}
 use Rattle.rows.proofs.Skipping.{lower-or-not}
 use Rattle.chains.specs.Chains.{Latest, Chained}
 use Rattle.index.specs.Buckets.{rowKey, bucket, buckets}
-use Rattle.index.specs.Index.{keyPlace, arcsPlace, indexLength, Indexed, Behind, Above, Gaps, SomeChains, entered, Entering}
+use Rattle.index.specs.Index.{keyPlace, arcsPlace, indexLength, Indexed, LinkBehind, LinkAbove, Gaps, SomeChains, entered, Entering}
 use Rattle.index.proofs.Buckets.{bucket-used, bucket-small}
 
 -- v stands at a place of the chain of bucket b: it is the last row of the bucket before top
@@ -28,7 +28,7 @@ record Standing (of : ℕ → ℕ) (n b r place v : ℕ) : Type 0 where
   latest : Latest of b top v
 
 standing : {of : ℕ → ℕ} {n b r place : ℕ} {index : List ℕ} → Chained buckets of n index → b < buckets
-    → (place ≡ b) ⊎ Behind of n b r place → Standing of n b r place (getD index place 0)
+    → (place ≡ b) ⊎ LinkBehind of n b r place → Standing of n b r place (getD index place 0)
 standing {n} {b} {index} c small at =
     elim at [
       | inl head ↦
@@ -52,7 +52,7 @@ standing {n} {b} {index} c small at =
     ]
 
 -- the search for the gap: it goes from a place to that of the row that stands there
-module _ {index : List ℕ} {b r place : ℕ} (small : b < buckets) (above : Above index b r place) where
+module _ {index : List ℕ} {b r place : ℕ} (small : b < buckets) (above : LinkAbove index b r place) where
   pub above-inside : SomeChains index → place < length index
   above-inside (of, n, c) = omega (arith, standing c small (above of n c) .low, c .long)
 
@@ -61,7 +61,7 @@ module _ {index : List ℕ} {b r place : ℕ} (small : b < buckets) (above : Abo
       let s = standing c small (above of n c) in
       c .links (getD index place 0) (omega arith) (omega (arith, s .latest .below, s .most)) .below
 
-  pub above-next : r < getD index place 0 → Above index b r (buckets + getD index place 0)
+  pub above-next : r < getD index place 0 → LinkAbove index b r (buckets + getD index place 0)
   above-next h of n c =
       let s = standing c small (above of n c) in
       inr (
@@ -88,7 +88,7 @@ key-far : (q i : ℕ) → i < buckets + mostRows → i ≡ keyPlace q → ⊥
 key-far q i h e = omega arith
 
 entered-cells : {of : ℕ → ℕ} {n b r place : ℕ} {index : List ℕ} (key : ℕ) → length index ≡ indexLength → Chained buckets of n index → r < n
-    → 0 < b → b < buckets → (place ≡ b) ⊎ Behind of n b r place → Cells index place r key
+    → 0 < b → b < buckets → (place ≡ b) ⊎ LinkBehind of n b r place → Cells index place r key
 entered-cells {r} {place} {index} key long c inside some small at =
     let one = set index 0 (getD index (buckets + r) 0) in
     let two = set one (buckets + r) (getD index place 0) in
@@ -175,7 +175,7 @@ module _ {of by : ℕ → ℕ} {r b : ℕ} (free : of r ≡ 0) (taken : by r ≡
 
   -- r was the last of kind 0, and comes at the place into the chain of b
   module _ {n place key : ℕ} {index : List ℕ} (c : Chained buckets of n index) (first : getD index 0 0 ≡ r) (positive : 0 < r) (inside : r < n)
-      (small : b < buckets) (at : (place ≡ b) ⊎ Behind of n b r place) (before : getD index place 0 ≤ r) (cell : Cells index place r key) where
+      (small : b < buckets) (at : (place ≡ b) ⊎ LinkBehind of n b r place) (before : getD index place 0 ≤ r) (cell : Cells index place r key) where
     last-free : Latest of 0 n r
     last-free = rw first at (c .lasts 0 (omega arith))
 

@@ -8,17 +8,17 @@ use Rattle.sets.specs.Below.{total}
 use Rattle.rows.specs.Table.{Table, mark, target}
 
 -- factors below 2 to the power 32, one for the mark and one for each letter, that have nothing to do with each other
-abbrev pub radix : ℕ
-radix = 4294967296
+abbrev pub modulus : ℕ
+modulus = 4294967296
 
 abbrev markFactor : ℕ
 markFactor = 2654435761
 
 abbrev pub root : ℕ → ℕ
-root x = (x * 2654435761 + 1640531527) % radix
+root x = (x * 2654435761 + 1640531527) % modulus
 
 abbrev pub factor : ℕ → ℕ
-factor x = root x * root x % radix
+factor x = root x * root x % modulus
 
 -- a mark and the targets of the letters below n, each times its factor; no target adds nothing
 unfoldable pub mix : ℕ → (ℕ → ℕ) → ℕ → ℕ

@@ -77,7 +77,7 @@ pub record Finds (t : Table) (n k : ℕ) (targets : List ℕ) (f : ℕ) : Type 0
   pub none : f ≡ 0 → (q : ℕ) → q ≤ n → agrees t q k targets ≡ true → ⊥
 
 -- the place of the array is that of a row of bucket b behind r
-pub record Behind (of : ℕ → ℕ) (n b r place : ℕ) : Type 0 where
+pub record LinkBehind (of : ℕ → ℕ) (n b r place : ℕ) : Type 0 where
   pub top : ℕ
   pub at : place ≡ buckets + top
   pub above : r < top
@@ -85,12 +85,12 @@ pub record Behind (of : ℕ → ℕ) (n b r place : ℕ) : Type 0 where
   pub kind : of top ≡ b
 
 -- it is that of the whole chain of bucket b, or of a row of it behind r, whatever the kinds of the rows that are chained
-abbrev pub Above : List ℕ → ℕ → ℕ → ℕ → Type 0
-Above index b r place = (of : ℕ → ℕ) (n : ℕ) → Chained buckets of n index → (place ≡ b) ⊎ Behind of n b r place
+abbrev pub LinkAbove : List ℕ → ℕ → ℕ → ℕ → Type 0
+LinkAbove index b r place = (of : ℕ → ℕ) (n : ℕ) → Chained buckets of n index → (place ≡ b) ⊎ LinkBehind of n b r place
 
 -- and what stands there is not behind r: it is where row r comes into the chain
 abbrev pub Gaps : List ℕ → ℕ → ℕ → ℕ → Type 0
-Gaps index b r place = (getD index place 0 ≤ r) × Above index b r place
+Gaps index b r place = (getD index place 0 ≤ r) × LinkAbove index b r place
 
 -- rows of some kinds are chained
 abbrev pub SomeChains : List ℕ → Type 0

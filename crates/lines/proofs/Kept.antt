@@ -20,12 +20,12 @@ use Rattle.lines.specs.declared.requests.Request.{Request}
 use Rattle.lines.specs.declared.requests.Request.the-variants as request
 use Rattle.lines.specs.Requests.{nameOf, callOf}
 use Rattle.lines.specs.Promises.{said, RequestLeaves, namesBehind}
-use Rattle.lines.specs.Sessions.{listsAfter}
+use Rattle.lines.specs.Sessions.{listsAfterLine}
 
 pub record Kept (t after : Table) (line : List ℕ) (n : ℕ) (asked : Request) : Type 0 where
   pub fine : sound after ≡ true
   pub long : length after ≡ length t
-  pub names : lists after ≡ listsAfter (bookOf t) line asked
+  pub names : lists after ≡ listsAfterLine (bookOf t) line asked
   pub told : said (outcomeOf t) line n asked ≡ said (run (bookOf t)) line n asked
   pub follow : namesBehind (bookOf after) asked ≡ namesBehind (bookOf t) asked
 

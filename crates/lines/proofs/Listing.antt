@@ -7,7 +7,7 @@ use Rattle.letters.specs.Names.{isName, isPrefix}
 use Rattle.letters.specs.Lists.{linesOf}
 use Rattle.sets.specs.Sets.{member, keep, insert}
 use Rattle.sets.specs.Below.{over}
-use Rattle.sets.specs.Residuals.{after, residuals, height, allResiduals, alike, distinct, states, need}
+use Rattle.sets.specs.Residuals.{after, residuals, longestWord, allResiduals, alike, distinct, states, need}
 use Rattle.model.specs.Run.{run}
 use Rattle.listing.specs.Pieces.{lines}
 use Rattle.printing.specs.Decimal.{digitsIn, decimal}
@@ -17,6 +17,6 @@ use Rattle.lines.specs.Listing.{listingInput, listingOutput}
 
 pub listing-holds : prints listingInput ≡ listingOutput
 unfolding
-    letter byteOf order isName isPrefix linesOf member keep insert after over residuals height allResiduals alike distinct states need run lines digitsIn decimal
+    letter byteOf order isName isPrefix linesOf member keep insert after over residuals longestWord allResiduals alike distinct states need run lines digitsIn decimal
     requestOf prints
 listing-holds = refl

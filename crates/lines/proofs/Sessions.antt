@@ -24,7 +24,7 @@ use Rattle.lines.specs.declared.steps.Place.{Place}
 use Rattle.lines.specs.declared.steps.Stage.the-variants.{Over, Long, First, Line, Names}
 use Rattle.lines.specs.Requests.{requestOf}
 use Rattle.lines.specs.Steps.{deskNumbers, mostInput, tooLong, mostOutput, beginning, overAfter, lineAt, nextNames, ready, nextPiece, stageText, Does, Steps}
-use Rattle.lines.specs.Sessions.{prints, inputSize, Step, StepsFrom, written}
+use Rattle.lines.specs.Sessions.{prints, inputSize, Taken, StepsFrom, output}
 use Rattle.lines.proofs.Following.{following-inside, following-rest, following-some}
 use Rattle.lines.proofs.Kept.{line-kept}
 use Rattle.lines.proofs.Places.{Stands, stands-apart, stands-ready, behind, more, left, left-first, left-lines, left-names}
@@ -186,16 +186,16 @@ module _ (t after : Table) (input : List ℕ) (place : Place) (before filled : L
       (λ s. Does s t after input place before filled next → Goes (stageText t input place (length before) s))
       idle long first end line names
 
-steps-print : (steps : List Step) (input : List ℕ) (t : Table) (place : Place) → Stands t input place → StepsFrom input t place steps
-    → written steps ≡ left t input place
+steps-print : (steps : List Taken) (input : List ℕ) (t : Table) (place : Place) → Stands t input place → StepsFrom input t place steps
+    → output steps ≡ left t input place
 steps-print [] input t place stands over = rw over
 steps-print (s ∷ more) input t place stands (p, takes, rest) =
     let g = goes t (s .table) input place (s .before) (s .filled) (s .place) stands takes p in
     ap₂ _++_ (step-written p) (steps-print more input (s .table) (s .place) (g .then) rest) ∙ sym (g .front)
 
 -- From the beginning, on any table of the desk's length, the steps write what 01 says that the desk program prints.
-pub desk-prints : (input : List ℕ) (t : Table) (steps : List Step) → length t ≡ deskNumbers → StepsFrom input t beginning steps
-    → written steps ≡ prints input
+pub desk-prints : (input : List ℕ) (t : Table) (steps : List Taken) → length t ≡ deskNumbers → StepsFrom input t beginning steps
+    → output steps ≡ prints input
 desk-prints input t steps long p = steps-print steps input t beginning (stands-apart t input beginning long refl refl) p
 
 -- What the program reads of the input suffices.

@@ -9,7 +9,7 @@ use Rattle.model.specs.Run.{rule, refused, run}
 use Rattle.rows.specs.Table.{Table}
 use Rattle.answers.specs.declared.cases.Refusal.{Refusal}
 use Rattle.answers.specs.declared.replies.Reply.{Reply}
-use Rattle.answers.specs.Replies.{refusalNumber, replyOf, refused as refusedReply}
+use Rattle.answers.specs.Replies.{refusalNumber, replyOf, refusedReply}
 use Rattle.promises.specs.Books.{bookOf}
 use Rattle.promises.specs.Walks.{askWalk, nextWalk}
 use Rattle.promises.specs.Promises.{outcomeOf, replyTo, Becomes, Changes, Leaves, Promised}

@@ -23,13 +23,13 @@ use Rattle.rows.specs.Skips.{NextArc}
 use Rattle.rows.proofs.Zeros.{zero-cell}
 use Rattle.rows.proofs.Facts.{row-inside, inside-row}
 use Rattle.rows.proofs.Skipping.{past}
-use Rattle.reaching.specs.Marks.{Marks, Pointed, Roots, marked}
+use Rattle.reaching.specs.Marks.{Marks, MarksMore, Roots, marked}
 
 -- nothing written points at no row, one write points at one, and one list of writes behind another points at the rows of both
-points-nowhere : {at : ℕ → Bool} {p : List ℕ} → ((s : ℕ) → at s ≡ false) → Pointed at p p
+points-nowhere : {at : ℕ → Bool} {p : List ℕ} → ((s : ℕ) → at s ≡ false) → MarksMore at p p
 points-nowhere none = record { long = refl; points = λ s h. rw (none s) }
 
-points-at-one : (p : List ℕ) (n : ℕ) → n < length p → Pointed (λ s. eqb n s) p (set p n 1)
+points-at-one : (p : List ℕ) (n : ℕ) → n < length p → MarksMore (λ s. eqb n s) p (set p n 1)
 points-at-one p n inside =
     record {
       long = length-set p n 1;
@@ -41,7 +41,7 @@ points-at-one p n inside =
     }
 
 points-at-both : {first second both : ℕ → Bool} {p q r : List ℕ}
-    → Pointed first p q → Pointed second q r → ((s : ℕ) → 0 < s → both s ≡ (first s || second s)) → Pointed both p r
+    → MarksMore first p q → MarksMore second q r → ((s : ℕ) → 0 < s → both s ≡ (first s || second s)) → MarksMore both p r
 points-at-both {first} {second} {both} {p} {q} {r} one two same =
     record {
       long = two .long ∙ one .long;
@@ -58,34 +58,34 @@ module _ (given : ℕ → ℕ) where
   abbrev pub givenBelow : ℕ → ℕ → Bool
   givenBelow x s = someBelow x (λ y. eqb (given y) s)
 
-  pub given-none : (p : List ℕ) → Pointed (λ s. givenBelow 0 s) p p
+  pub given-none : (p : List ℕ) → MarksMore (λ s. givenBelow 0 s) p p
   unfolding someBelow
   given-none p = points-nowhere (λ s. refl)
 
-  pub given-more : {p q : List ℕ} (x n : ℕ) → Pointed (λ s. givenBelow x s) p q → n ≡ given x → n < length p
-      → Pointed (λ s. givenBelow (x + 1) s) p (set q n 1)
+  pub given-more : {p q : List ℕ} (x n : ℕ) → MarksMore (λ s. givenBelow x s) p q → n ≡ given x → n < length p
+      → MarksMore (λ s. givenBelow (x + 1) s) p (set q n 1)
   unfolding someBelow
   given-more {q} x n before at inside =
       points-at-both before (points-at-one q n (omega (arith, before .long))) (λ s h. rw (add-one, at))
 
   -- number 0 stands for no row
-  given-zero : {p q : List ℕ} (x : ℕ) → given x ≡ 0 → Pointed (λ s. givenBelow x s) p q → Pointed (λ s. givenBelow (suc x) s) p q
+  given-zero : {p q : List ℕ} (x : ℕ) → given x ≡ 0 → MarksMore (λ s. givenBelow x s) p q → MarksMore (λ s. givenBelow (suc x) s) p q
   unfolding someBelow
   given-zero x zero before =
       points-at-both before (points-nowhere (λ s. refl)) (λ s some. rw (zero, ne-eqb 0 s (λ e. omega arith)))
 
 -- letters without a target give none
 pub targets-past : {t : Table} {r x e : ℕ} {p q : List ℕ} → NextArc t r x e
-    → Pointed (λ s. givenBelow (λ y. target t r y) x s) p q → Pointed (λ s. givenBelow (λ y. target t r y) e s) p q
+    → MarksMore (λ s. givenBelow (λ y. target t r y) x s) p q → MarksMore (λ s. givenBelow (λ y. target t r y) e s) p q
 targets-past {t} {r} {x} {e} {p} {q} next =
-    past (λ y. target t r y) (λ n. Pointed (λ s. givenBelow (λ y. target t r y) n s) p q) (given-zero (λ y. target t r y)) x e (next .from) (next .none)
+    past (λ y. target t r y) (λ n. MarksMore (λ s. givenBelow (λ y. target t r y) n s) p q) (given-zero (λ y. target t r y)) x e (next .from) (next .none)
 
 module _ {t : Table} {test : ℕ → Bool} {keep : List ℕ} (m : Marks t test keep) where
   pub marks-same : (other : ℕ → Bool) → ((r : ℕ) → isRow t r ≡ true → test r ≡ other r) → Marks t other keep
   marks-same other same = record { long = m .long; marks = λ r row. m .marks r row ∙ same r row }
 
 -- the rows written to are marked too
-module _ {at : ℕ → Bool} {p q : List ℕ} (d : Pointed at p q) where
+module _ {at : ℕ → Bool} {p q : List ℕ} (d : MarksMore at p q) where
   pub marked-more : (r : ℕ) → 0 < r → marked q r ≡ (at r || marked p r)
   marked-more r some = rw (d .points r some) (go (at r))
     where

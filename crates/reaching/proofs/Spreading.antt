@@ -31,7 +31,7 @@ use Rattle.chains.specs.Chains.{Latest}
 use Rattle.chains.specs.Orders.{level}
 use Rattle.chains.proofs.Chains.{latest-here}
 use Rattle.chains.proofs.Levels.{used-level}
-use Rattle.reaching.specs.Marks.{Pointed, Marks, Roots, SpreadTo, Spreads, marked, turn, rootsOf}
+use Rattle.reaching.specs.Marks.{MarksMore, Marks, Roots, SpreadTo, Spreads, marked, turn, rootsOf}
 use Rattle.reaching.proofs.Marking.{marked-more, marks-same, roots-more, roots-none}
 
 module _ {t : Table} where
@@ -60,7 +60,7 @@ module _ {t : Table} (tidy : Tidy t) {r : ℕ} {p : List ℕ} (u : Used t r) (ro
   row-skipped other =
       spreads-same roots (λ s v m early. elim (turn-cases s v early) [ inl e ↦ e | inr same ↦ absurd (other (rw same at m)) ])
 
-  module _ {q : List ℕ} (m : marked p r ≡ true) (d : Pointed (λ s. pointsAt t r s) p q) where
+  module _ {q : List ℕ} (m : marked p r ≡ true) (d : MarksMore (λ s. pointsAt t r s) p q) where
     marked-now : (s : ℕ) → isRow t s ≡ true → marked q s ≡ (pointsAt t r s || marked p s)
     marked-now s row = marked-more d s (row-inside t s row .0)
 
@@ -182,7 +182,7 @@ reached-more t tidy ns ms ns-named ms-named more =
     (λ s x a e. reached-arc t tidy ms ms-named s x e a)
 
 -- where no row was marked and the starts are then, the roots are the starts that are not 0
-module _ {t : Table} (tidy : Tidy t) {none p : List ℕ} (m : Marks t (λ r. false) none) (d : Pointed (λ s. isStart t s) none p) where
+module _ {t : Table} (tidy : Tidy t) {none p : List ℕ} (m : Marks t (λ r. false) none) (d : MarksMore (λ s. isStart t s) none p) where
   start-used : (r : ℕ) → isRow t r ≡ true → isStart t r ≡ true → Used t r
   start-used r row e =
       let (n, h, at) = some-below _ missions e in

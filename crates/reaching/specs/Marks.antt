@@ -21,7 +21,7 @@ pub record Marks (t : Table) (test : ℕ → Bool) (keep : List ℕ) : Type 0 wh
   pub marks : (r : ℕ) → isRow t r ≡ true → marked keep r ≡ test r
 
 -- the array after: 1 at the rows that pass the test, the others as before
-pub record Pointed (at : ℕ → Bool) (p q : List ℕ) : Type 0 where
+pub record MarksMore (at : ℕ → Bool) (p q : List ℕ) : Type 0 where
   pub long : length q ≡ length p
   pub points : (s : ℕ) → 0 < s → getD q s 0 ≡ cond (at s) 1 (getD p s 0)
 

@@ -13,12 +13,12 @@ ghost use Rattle.letters.specs.LetterSet.{flag, countOf};
 ghost use Rattle.rows.specs.Table.{rowCount, isRow};
 ghost use Rattle.rows.specs.Rules.{isStart, pointsAt};
 ghost use Rattle.rows.specs.Tidy.{Used, Tidy};
-ghost use Rattle.reaching.specs.Marks.{Pointed, marked};
+ghost use Rattle.reaching.specs.Marks.{MarksMore, marked};
 
 // Marks the targets of a row.
 pub fn mark_targets(t: &[u16], r: usize, keep: &mut [u16])
     requires { ⌜ Tidy (now t) × Used (now t) r × (rowCount (now t) ≤ length (now keep)) ⌝ }
-    ensures { λ _. ⌜ Pointed (λ s. pointsAt (now (t .entry)) r s) (now (keep .entry)) (now (keep .exit)) ⌝ }
+    ensures { λ _. ⌜ MarksMore (λ s. pointsAt (now (t .entry)) r s) (now (keep .entry)) (now (keep .exit)) ⌝ }
 {
     let mut x = next_arc(t, r, 0);
     while x < LETTERS {
@@ -30,7 +30,7 @@ pub fn mark_targets(t: &[u16], r: usize, keep: &mut [u16])
 // Marks the starts.
 pub fn mark_starts(t: &[u16], keep: &mut [u16])
     requires { ⌜ Tidy (now t) × (rowCount (now t) ≤ length (now keep)) ⌝ }
-    ensures { λ _. ⌜ Pointed (λ s. isStart (now (t .entry)) s) (now (keep .entry)) (now (keep .exit)) ⌝ }
+    ensures { λ _. ⌜ MarksMore (λ s. isStart (now (t .entry)) s) (now (keep .entry)) (now (keep .exit)) ⌝ }
 {
     let mut m = 0;
     while m < MISSIONS {

@@ -14,7 +14,7 @@ use Rattle.rows.specs.Rules.{pointsAt, isTarget}
 use Rattle.index.specs.Arcs.{arcsFrom, arcsOf, arcsTo}
 use Rattle.index.specs.Index.{ArcsAt, Keyed, Keeps}
 use Rattle.index.proofs.Arcs.{arc-counted, counted-arc, row-counted, counted-row}
-use Rattle.rules.specs.Counted.{Counted}
+use Rattle.rules.specs.Counted.{ArcsCounted}
 
 module _ (t : Table) (s : ℕ) where
   -- a row in use with this target has an arc that is counted, and a row that has one is in use and has this target
@@ -52,5 +52,5 @@ keyed-kept inside k kept =
     }
 
 -- and the index says how many arcs lead to each row
-pub arcs-kept : {t : Table} {n : ℕ} {arcs before after : List ℕ} → Counted t arcs → Keeps arcs n before after → n ≡ rowCount t → ArcsAt t after
+pub arcs-kept : {t : Table} {n : ℕ} {arcs before after : List ℕ} → ArcsCounted t arcs → Keeps arcs n before after → n ≡ rowCount t → ArcsAt t after
 arcs-kept counted kept all s some below = kept .kept s (omega arith) ∙ counted .counts .counts s some below

@@ -9,14 +9,14 @@ use Rattle.rows.specs.Table.{Table, width, rowCount}
 use Rattle.rows.proofs.Zeros.{zero-cell}
 use Rattle.index.specs.Arcs.{arcsTo, Adds}
 use Rattle.index.specs.Index.{indexLength, Keyed}
-use Rattle.rules.specs.Counted.{Tested, KeyedIf, Counted}
+use Rattle.rules.specs.Counted.{Tested, KeyedIf, ArcsCounted}
 
 -- a test that fails says nothing of the arcs that the array counts
 pub not-passed : {rule : Bool} {more : ℕ → ℕ} {p q : List ℕ} → false ≡ rule → length q ≡ length p → Tested rule more p q false
 not-passed e long = record { says = e; long = long; counts = λ d. absurd (false≢true d) }
 
 pub counted-from-zeros : (t : Table) {n : ℕ} {p : List ℕ} → width ≤ length t → rowCount t ≤ n
-    → Adds (λ s. arcsTo t s) (replicate n 0) p → Counted t p
+    → Adds (λ s. arcsTo t s) (replicate n 0) p → ArcsCounted t p
 counted-from-zeros t {n} whole inside d =
     record {
       head = whole;

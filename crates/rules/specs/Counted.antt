@@ -20,6 +20,6 @@ pub record KeyedIf (answer : Bool) (t : Table) (n : ℕ) (index : List ℕ) : Ty
   pub passed : answer ≡ true → Keyed t n index
 
 -- a table with a head, and the arcs to each of its rows
-pub record Counted (t : Table) (arcs : List ℕ) : Type 0 where
+pub record ArcsCounted (t : Table) (arcs : List ℕ) : Type 0 where
   pub head : width ≤ length t
   pub counts : Arcs t arcs

@@ -9,7 +9,7 @@ ghost use mathlib.Core.Path.{_≡_};
 ghost use lib.ListN.{length};
 ghost use Rattle.rows.specs.Table.{width};
 ghost use Rattle.rows.specs.Rules.{ifUsed, isStart, isPointed, rule5};
-ghost use Rattle.rules.specs.Counted.{Counted};
+ghost use Rattle.rules.specs.Counted.{ArcsCounted};
 
 fn is_start(t: &[u16], r: usize) -> bool
     requires { ⌜ width ≤ length (now t) ⌝ }
@@ -27,7 +27,7 @@ fn is_start(t: &[u16], r: usize) -> bool
 
 // One row: a free one passes.
 fn is_pointed(t: &[u16], r: usize, arcs: &[u16]) -> bool
-    requires { ⌜ Counted (now t) (now arcs) ⌝ }
+    requires { ⌜ ArcsCounted (now t) (now arcs) ⌝ }
     ensures { λ b. ⌜ b ≡ ifUsed (now (t .entry)) r (isPointed (now (t .entry)) r) ⌝ }
 {
     if !in_use(t, r) {
@@ -40,7 +40,7 @@ fn is_pointed(t: &[u16], r: usize, arcs: &[u16]) -> bool
 }
 
 pub fn rule5(t: &[u16], arcs: &[u16]) -> bool
-    requires { ⌜ Counted (now t) (now arcs) ⌝ }
+    requires { ⌜ ArcsCounted (now t) (now arcs) ⌝ }
     ensures { λ b. ⌜ b ≡ rule5 (now (t .entry)) ⌝ }
 {
     let k = row_count(t);

@@ -13,7 +13,7 @@ use Rattle.letters.specs.Letters.{letters}
 use Rattle.letters.specs.Words.{Word}
 use Rattle.letters.proofs.Order.{same-refl}
 use Rattle.sets.specs.Sets.{Words, Filled, member}
-use Rattle.sets.specs.Residuals.{after, residuals, height, allResiduals, states}
+use Rattle.sets.specs.Residuals.{after, residuals, longestWord, allResiduals, states}
 use Rattle.sets.proofs.Membership.{In, here, there, nil-in, cons-in, append-in, in-left, in-right, Apart}
 use Rattle.sets.proofs.Below.{over-in, in-over}
 use Rattle.sets.proofs.Distinct.{distinct-in, in-distinct, distinct-apart}
@@ -48,24 +48,24 @@ module _ (P : Words → Type 0) (step : Carried P) where
         | inr j ↦ let (x, h, g) = over-in _ letters j in residuals-all d (after x (w ∷ ws)) (step x h (w ∷ ws) (p tt)) g
       ]
 
-height-after : (x : ℕ) (l : Words) → Filled (after x l) → height (after x l) < height l
-unfolding after height
+height-after : (x : ℕ) (l : Words) → Filled (after x l) → longestWord (after x l) < longestWord l
+unfolding after longestWord
 height-after x [] f = absurd f
 height-after x ([] ∷ ws) f = omega (arith, height-after x ws f)
 height-after x ((y ∷ w) ∷ ws) f = go (λ g. height-after x ws g) (eqb x y) f
   where
-    longer : (k : Words) → (Filled k → height k < height ws) → height (w ∷ k) < height ((y ∷ w) ∷ ws)
+    longer : (k : Words) → (Filled k → longestWord k < longestWord ws) → longestWord (w ∷ k) < longestWord ((y ∷ w) ∷ ws)
     longer [] rest = omega arith
     longer (v ∷ vs) rest = omega (arith, rest tt)
 
-    go : (Filled (after x ws) → height (after x ws) < height ws) → (t : Bool) → Filled (cond t (w ∷ after x ws) (after x ws))
-        → height (cond t (w ∷ after x ws) (after x ws)) < height ((y ∷ w) ∷ ws)
+    go : (Filled (after x ws) → longestWord (after x ws) < longestWord ws) → (t : Bool) → Filled (cond t (w ∷ after x ws) (after x ws))
+        → longestWord (cond t (w ∷ after x ws) (after x ws)) < longestWord ((y ∷ w) ∷ ws)
     go rest true f = longer (after x ws) rest
     go rest false f = omega (arith, rest f)
 
 -- the depth is enough for the set
 abbrev Deep : ℕ → Words → Type 0
-Deep d l = Filled l → height l < d
+Deep d l = Filled l → longestWord l < d
 
 in-residuals : (d : ℕ) (l : Words) → Deep d l → Filled l → In l (residuals d l)
 unfolding residuals
@@ -90,7 +90,7 @@ after-in-residuals (suc d) (w ∷ ws) deep x h i f =
 
 -- all that is left of a list: the depth is enough
 abbrev parts : Words → List Words
-parts l = residuals (suc (height l)) l
+parts l = residuals (suc (longestWord l)) l
 
 all-in : (ls : List Words) {k : Words} → In k (allResiduals ls) → (m : ℕ) × (m < length ls) × In k (parts (getD ls m []))
 unfolding allResiduals

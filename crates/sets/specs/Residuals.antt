@@ -28,14 +28,14 @@ residuals (suc depth) [] = []
 residuals (suc depth) (w ∷ ws) = (w ∷ ws) ∷ over letters (λ x. residuals depth (after x (w ∷ ws)))
 
 -- the letters of the longest word
-unfoldable pub height : Words → ℕ
-height [] = 0
-height (w ∷ ws) = max (length w) (height ws)
+unfoldable pub longestWord : Words → ℕ
+longestWord [] = 0
+longestWord (w ∷ ws) = max (length w) (longestWord ws)
 
 -- list after list
 unfoldable pub allResiduals : List Words → List Words
 allResiduals [] = []
-allResiduals (l ∷ ls) = residuals (suc (height l)) l ++ allResiduals ls
+allResiduals (l ∷ ls) = residuals (suc (longestWord l)) l ++ allResiduals ls
 
 -- are two lists the same, word by word?
 unfoldable pub alike : Words → Words → Bool

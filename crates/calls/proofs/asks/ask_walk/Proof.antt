@@ -4,7 +4,7 @@ use borrow.Author.Needs.{needs}
 use Rattle.letters.specs.LetterSet.{flag}
 use Rattle.letters.proofs.Words.{name-parts}
 use Rattle.rows.proofs.Rules.{start-inside}
-use Rattle.answers.specs.Replies.{done, replyOf}
+use Rattle.answers.specs.Replies.{doneReply, replyOf}
 use Rattle.promises.specs.Walks.{askWalk}
 use Rattle.calls.proofs.asks.ask_walk.Statement.{statement}
 use Rattle.calls.proofs.asks.ask_walk.Tie as tie
@@ -17,7 +17,7 @@ ends-requires c κs = search needs
 
 answered : (c : tie.After-ends) →
     let args = c .before .before .before .before .args in
-    replyOf (askWalk (args .t .now) (args .m) (args .name .now) .done) ≡ done (flag (c .ends .result))
+    replyOf (askWalk (args .t .now) (args .m) (args .name .now) .done) ≡ doneReply (flag (c .ends .result))
 answered c = rw (c .ends .ensures, c .before .walk-list .ensures)
 
 returns : tie.Need-returns

@@ -5,13 +5,13 @@ use mathlib.Core.Path.{_≡_, refl}
 use mathlib.Core.Logic.{inl}
 use native.Mathlib.Omega.{arith}
 use lib.ListN.{getD}
-use Rattle.index.specs.Index.{Above}
+use Rattle.index.specs.Index.{LinkAbove}
 use Rattle.index.proofs.Entering.{above-inside, above-falls, above-next}
 use Rattle.index.proofs.enters.gap.Statement.{statement}
 use Rattle.index.proofs.enters.gap.Tie as tie
 
 abbrev Inv-loop : tie.InvT-loop
-Inv-loop index b r place₀ place = Above index b r place
+Inv-loop index b r place₀ place = LinkAbove index b r place
 
 abbrev μ-loop : tie.MeasureT-loop
 μ-loop index b r place₀ place = getD index place 0

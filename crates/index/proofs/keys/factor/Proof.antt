@@ -3,7 +3,7 @@ use native.Mathlib.Nat.{mul-le-mul-left, le-of-lt}
 use Prim.Native.Nat.{_<_}
 use native.Mathlib.Omega.{arith}
 use borrow.Author.Needs.{needs}
-use Rattle.index.specs.Buckets.{radix, root}
+use Rattle.index.specs.Buckets.{modulus, root}
 use Rattle.index.proofs.keys.factor.Statement.{statement}
 use Rattle.index.proofs.keys.factor.Tie as tie
 
@@ -15,7 +15,7 @@ add-root c = search needs
 
 mul-result : tie.Need-mul-result
 mul-result c =
-    let small : root (c .args .x) < radix = omega arith in
+    let small : root (c .args .x) < modulus = omega arith in
     omega (arith, mul-le-mul-left (root (c .args .x)) (le-of-lt small))
 
 returns : tie.Need-returns

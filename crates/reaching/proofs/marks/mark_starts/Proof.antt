@@ -9,13 +9,13 @@ use Rattle.model.specs.Lists.{missions}
 use Rattle.rows.specs.Table.{start}
 use Rattle.rows.proofs.Facts.{named-inside}
 use Rattle.rows.proofs.Books.{start-named}
-use Rattle.reaching.specs.Marks.{Pointed}
+use Rattle.reaching.specs.Marks.{MarksMore}
 use Rattle.reaching.proofs.Marking.{givenBelow, given-none, given-more}
 use Rattle.reaching.proofs.marks.mark_starts.Statement.{statement}
 use Rattle.reaching.proofs.marks.mark_starts.Tie as tie
 
 abbrev Inv-loop : tie.InvT-loop
-Inv-loop t keep₀ m₀ keep m = (m ≤ missions) × Pointed (λ s. givenBelow (λ n. start t n) m s) keep₀ keep
+Inv-loop t keep₀ m₀ keep m = (m ≤ missions) × MarksMore (λ s. givenBelow (λ n. start t n) m s) keep₀ keep
 
 abbrev μ-loop : tie.MeasureT-loop
 μ-loop t keep₀ m₀ keep m = missions - m

@@ -8,13 +8,13 @@ use lib.ListN.{length}
 use Rattle.letters.specs.Letters.{letters}
 use Rattle.rows.specs.Table.{target}
 use Rattle.rows.proofs.Facts.{named-inside, target-named}
-use Rattle.reaching.specs.Marks.{Pointed}
+use Rattle.reaching.specs.Marks.{MarksMore}
 use Rattle.reaching.proofs.Marking.{givenBelow, given-none, given-more, targets-past}
 use Rattle.reaching.proofs.marks.mark_targets.Statement.{statement}
 use Rattle.reaching.proofs.marks.mark_targets.Tie as tie
 
 abbrev Inv-loop : tie.InvT-loop
-Inv-loop t r keep₀ x₀ keep x = (x ≤ letters) × Pointed (λ s. givenBelow (λ y. target t r y) x s) keep₀ keep
+Inv-loop t r keep₀ x₀ keep x = (x ≤ letters) × MarksMore (λ s. givenBelow (λ y. target t r y) x s) keep₀ keep
 
 abbrev μ-loop : tie.MeasureT-loop
 μ-loop t r keep₀ x₀ keep x = letters - x

@@ -14,7 +14,7 @@ use Rattle.rows.proofs.Rules.{length-facts}
 use Rattle.rows.proofs.Zeros.{zero-cell}
 use Rattle.index.proofs.Keeping.{keyed-none}
 use Rattle.rules.proofs.Writes.{counted-from-zeros}
-use Rattle.rules.specs.Counted.{Counted}
+use Rattle.rules.specs.Counted.{ArcsCounted}
 use Rattle.rules.proofs.Counting.{keyed-kept, arcs-kept}
 use Rattle.rules.proofs.book.sound_indexed.Statement.{statement}
 use Rattle.rules.proofs.book.sound_indexed.Tie as tie
@@ -120,7 +120,7 @@ rows-fit : (c : tie.After-rule3) → (width ≤ length (table c)) × (0 < rowCou
 rows-fit c = whole-rows (table c) (length-fine (c .before .before .before .before .before .before .before))
 
 -- and the arcs are counted
-counted : (c : tie.Else4) → Counted (table (third c)) (third c .rule3 .last .1 .0)
+counted : (c : tie.Else4) → ArcsCounted (table (third c)) (third c .rule3 .last .1 .0)
 counted c =
     let (whole, _, inside) = rows-fit (third c) in
     counted-from-zeros (table (third c)) whole inside (third c .rule3 .ensures .0 .counts (passed c))

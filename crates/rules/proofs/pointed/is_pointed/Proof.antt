@@ -12,14 +12,14 @@ use Rattle.rows.specs.Table.{Table, inUse}
 use Rattle.rows.specs.Rules.{isTarget}
 use Rattle.rows.specs.Tidy.{Used}
 use Rattle.index.specs.Arcs.{arcsTo}
-use Rattle.rules.specs.Counted.{Counted}
+use Rattle.rules.specs.Counted.{ArcsCounted}
 use Rattle.rows.proofs.Facts.{in-use-used}
 use Rattle.rules.proofs.Counting.{led-to, not-led-to}
 use Rattle.rules.proofs.pointed.is_pointed.Statement.{statement}
 use Rattle.rules.proofs.pointed.is_pointed.Tie as tie
 
 -- a row is a target where the array does not say 0 of it
-module _ {t : Table} {arcs : List ℕ} (counted : Counted t arcs) {r : ℕ} (u : Used t r) where
+module _ {t : Table} {arcs : List ℕ} (counted : ArcsCounted t arcs) {r : ℕ} (u : Used t r) where
   said : getD arcs r 0 ≡ arcsTo t r
   said = counted .counts .counts r (u .positive) (u .inside)
 
