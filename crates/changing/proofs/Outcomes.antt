@@ -164,5 +164,5 @@ module _ (t : Table) (s : sound t ≡ true) (m : ℕ) (h : m < missions) where
       let tidy = sound-facts t s .tidy in
       let none : words t 0 ≡ [] = words-none t 0 (no-row t 0 refl) in
       let c = rw none at (settled t t after s tidy (grown-self t) m 0 h (no-row-startable t) done settles) in
-      let all : done ≡ true = c .says ∙ clear-fits t s m h in
+      let all : done ≡ true = c .says ∙ clear-fits t s m in
       done-changes t after (clear m) _ 1 (λ none. absurd (omega arith)) (clear-run true (start-names t tidy m h some)) (c .long) (c .sound) (rw all at (c .lists))

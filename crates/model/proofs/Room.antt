@@ -4,33 +4,36 @@
 -- names of a list for load, or by two lists combined, and each of these is a plain set of names. Assumes nothing.
 use Prim.Native.Nat.{ℕ, zero, suc, _≤_, _<_}
 use native.Mathlib.Omega.{arith}
+use native.Mathlib.Decide.{ℕ-discrete}
 use mathlib.Core.Path.{_≡_, refl, _∙_, ap}
 use mathlib.Core.Logic.{_≢_}
 use mathlib.Core.Bool.{Bool, true, false, not, _&&_, false≢true, and-eq-true-iff}
 use mathlib.Core.List.{List, [], _∷_}
 use lib.Dec.{eqb, ltb}
-use lib.ListN.{replicate, length-set, length-map}
-use borrow.Author.Tests.{ltb-true, ltb-false, eqb-false, not-true, not-false}
+use lib.ListN.{length, replicate, length-set, length-map}
+use borrow.Author.Tests.{ltb-true, ltb-false, le-ltb, eqb-false, not-true, not-false}
 use Rattle.letters.specs.Each.{Each}
 use Rattle.letters.specs.Words.{Word, wordOf, bytesOf, Spelled}
 use Rattle.letters.specs.Names.{isName}
 use Rattle.letters.specs.Lists.{linesOf, namesOf, isList}
 use Rattle.letters.proofs.Words.{name-parts, name-bytes}
 use Rattle.letters.proofs.Lines.{names-each, list-parts}
-use Rattle.sets.specs.Sets.{Words, Plain}
-use Rattle.sets.specs.Residuals.{need}
+use Rattle.sets.specs.Sets.{Words, Filled, Plain}
+use Rattle.sets.specs.Residuals.{states, need}
 use Rattle.sets.specs.Automata.{Fewest}
 use Rattle.sets.proofs.Sets.{rises-rising}
-use Rattle.sets.proofs.Fewest.{need-fewest, fewest-one}
+use Rattle.sets.proofs.Membership.{In}
+use Rattle.sets.proofs.States.{list-in-states, after-in-states, states-all}
+use Rattle.sets.proofs.Fewest.{need-fewest, fewest-one, need-within}
 use Rattle.model.specs.Lists.{missions, listOf, replace, SixteenSets}
 use Rattle.model.specs.Call.{Call, Book, Outcome}
 use Rattle.model.specs.Call.Call.{empty, check, ask, next, add, remove, clear, load, combine, count, rank, nth, used}
 use Rattle.model.specs.Refusals.{Refusal, given, noRoom}
 use Rattle.model.specs.Rules.{withName, combined}
 use Rattle.model.specs.Run.{rule, refused, run}
-use Rattle.model.specs.Changes.{refusedForRoom}
+use Rattle.model.specs.Changes.{isChange}
 use Rattle.model.specs.Room.{OnlyRoom, RoomExact}
-use Rattle.model.proofs.Lists.{replace-each, list-each}
+use Rattle.model.proofs.Lists.{replace-same, replace-other, replace-each, list-each}
 use Rattle.model.proofs.Names.{plain-with-name, with-name-each}
 use Rattle.model.proofs.Changes.{done-number}
 use Rattle.model.proofs.Combined.{plain-combined, combined-each}
@@ -131,25 +134,42 @@ given-last (r ∷ s ∷ rs) e only =
 abbrev ByRoom : Book → Call → Type 0
 ByRoom b c = given (rule b c .refusals) ≡ given (noRoom b (rule b c .done .lists) ∷ [])
 
-only-room : (b : Book) (c : Call) → refusedForRoom c ≡ true → OnlyRoom b c → ByRoom b c
-only-room b (add m name) e only = given-last (rule b (add m name) .refusals) refl only
-only-room b (remove m name) e only = given-last (rule b (remove m name) .refusals) refl only
-only-room b (load m bytes) e only = given-last (rule b (load m bytes) .refusals) refl only
-only-room b (combine op x y z) e only = given-last (rule b (combine op x y z) .refusals) refl only
-only-room b empty e only = absurd (false≢true e)
-only-room b (clear m) e only = absurd (false≢true e)
-only-room b check e only = absurd (false≢true e)
-only-room b (ask m name) e only = absurd (false≢true e)
-only-room b (next m prefix) e only = absurd (false≢true e)
-only-room b (count m) e only = absurd (false≢true e)
-only-room b (rank m name) e only = absurd (false≢true e)
-only-room b (nth m n size) e only = absurd (false≢true e)
-only-room b used e only = absurd (false≢true e)
+-- a list that is cleared leaves no other sets
+pub need-cleared : (ls : List Words) (m : ℕ) → need (replace ls m []) ≤ need ls
+need-cleared ls m =
+    need-within (replace ls m []) ls
+    (λ k i. states-all (λ k. In k (states ls)) (λ x h k j f. after-in-states ls j x h f) (replace ls m []) list i)
+  where
+    list : (n : ℕ) → n < length (replace ls m []) → Filled (listOf (replace ls m []) n) → In (listOf (replace ls m []) n) (states ls)
+    list n h some =
+        let inside : n < length ls = rw (length-set ls m []) at h in
+        elim (ℕ-discrete n m) [
+          | yes e ↦ absurd (rw (e, replace-same ls m [] (rw e at inside)) at some)
+          | no e ↦ let same = replace-other ls m n [] e in rw same (list-in-states ls n inside (rw same at some))
+        ]
 
-pub room-exact : (b : Book) (c : Call) → SixteenSets (b .lists) → refusedForRoom c ≡ true → OnlyRoom b c
+only-room : (b : Book) (c : Call) → need (b .lists) ≤ b .room → isChange c ≡ true → OnlyRoom b c → ByRoom b c
+only-room b (add m name) fits e only = given-last (rule b (add m name) .refusals) refl only
+only-room b (remove m name) fits e only = given-last (rule b (remove m name) .refusals) refl only
+only-room b (load m bytes) fits e only = given-last (rule b (load m bytes) .refusals) refl only
+only-room b (combine op x y z) fits e only = given-last (rule b (combine op x y z) .refusals) refl only
+-- clear is not refused for room, and needs none
+only-room b (clear m) fits e only =
+    let enough = le-ltb (b .room) (need (replace (b .lists) m [])) (omega (arith, need-cleared (b .lists) m)) in
+    given-last (rule b (clear m) .refusals) refl only ∙ rw (only .1 .1 .0 (omega arith), enough)
+only-room b empty fits e only = absurd (false≢true e)
+only-room b check fits e only = absurd (false≢true e)
+only-room b (ask m name) fits e only = absurd (false≢true e)
+only-room b (next m prefix) fits e only = absurd (false≢true e)
+only-room b (count m) fits e only = absurd (false≢true e)
+only-room b (rank m name) fits e only = absurd (false≢true e)
+only-room b (nth m n size) fits e only = absurd (false≢true e)
+only-room b used fits e only = absurd (false≢true e)
+
+pub room-exact : (b : Book) (c : Call) → SixteenSets (b .lists) → need (b .lists) ≤ b .room → isChange c ≡ true → OnlyRoom b c
     → (n : ℕ) → Fewest (rule b c .done .lists) n → RoomExact b c n
 unfolding run
-room-exact b c sets room only n few = go (ltb (b .room) (need (rule b c .done .lists))) refl
+room-exact b c sets fits change only n few = go (ltb (b .room) (need (rule b c .done .lists))) refl
   where
     counted : need (rule b c .done .lists) ≡ n
     counted = fewest-one (need-fewest (rule b c .done .lists) (after-sets b c sets only .plain)) few
@@ -157,7 +177,7 @@ room-exact b c sets room only n few = go (ltb (b .room) (need (rule b c .done .l
     go : (over : Bool) → ltb (b .room) (need (rule b c .done .lists)) ≡ over → RoomExact b c n
     go true e =
         let more : b .room < n = rw counted at (ltb-true (b .room) (need (rule b c .done .lists)) e) in
-        let eleven : run b c ≡ refused 11 b = rw (only-room b c room only, e) in
+        let eleven : run b c ≡ refused 11 b = rw (only-room b c fits change only, e) in
         record {
           refused-over = λ d. more;
           over-refused = λ h. ap (λ (o : Outcome). o .number) eleven;
@@ -165,7 +185,7 @@ room-exact b c sets room only n few = go (ltb (b .room) (need (rule b c .done .l
         }
     go false e =
         let most : n ≤ b .room = rw counted at (ltb-false (b .room) (need (rule b c .done .lists)) e) in
-        let done : run b c ≡ rule b c .done = rw (only-room b c room only, e) in
+        let done : run b c ≡ rule b c .done = rw (only-room b c fits change only, e) in
         record {
           refused-over = λ d. absurd (omega (arith, ap (λ (o : Outcome). o .number) done, done-number b c));
           over-refused = λ h. absurd (omega arith);

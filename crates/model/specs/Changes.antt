@@ -1,4 +1,4 @@
--- Whose list a call may change, and which calls may be refused for room. Assumes nothing.
+-- Whose list a call may change, and which calls are changes. Assumes nothing.
 use Prim.Native.Nat.{ℕ}
 use mathlib.Core.Bool.{Bool, true, false}
 use lib.Dec.{eqb}
@@ -36,19 +36,3 @@ isChange (count m) = false
 isChange (rank m name) = false
 isChange (nth m n size) = false
 isChange used = false
-
--- 11, "the sixteen lists after the change need more states than room": "add, remove, load, combine"
-abbrev pub refusedForRoom : Call → Bool
-refusedForRoom (add m name) = true
-refusedForRoom (remove m name) = true
-refusedForRoom (load m bytes) = true
-refusedForRoom (combine op x y z) = true
-refusedForRoom empty = false
-refusedForRoom (clear m) = false
-refusedForRoom check = false
-refusedForRoom (ask m name) = false
-refusedForRoom (next m prefix) = false
-refusedForRoom (count m) = false
-refusedForRoom (rank m name) = false
-refusedForRoom (nth m n size) = false
-refusedForRoom used = false

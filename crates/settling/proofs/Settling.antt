@@ -17,30 +17,31 @@ use borrow.Author.Tests.{leb-true, le-leb}
 use Rattle.letters.specs.Letters.{letters}
 use Rattle.letters.specs.Each.{Each}
 use Rattle.letters.specs.LetterSet.{countOf}
-use Rattle.letters.proofs.LetterSet.{count-more}
 use Rattle.sets.specs.Below.{total}
 use Rattle.sets.specs.Sets.{member}
+use Rattle.sets.specs.Residuals.{need}
 use Rattle.sets.proofs.Membership.{In, here, there, cons-in}
 use Rattle.sets.proofs.Below.{total-agree, over-in}
 use Rattle.model.specs.Lists.{missions, listOf, replace}
 use Rattle.model.proofs.Lists.{replace-same, replace-other}
+use Rattle.model.proofs.Room.{need-cleared}
 use Rattle.rows.specs.Table.{Table, width, rowCount, start, starts, mark, target, inUse, room}
 use Rattle.rows.specs.Words.{words, lists}
 use Rattle.rows.specs.Rules.{sound}
 use Rattle.rows.specs.Tidy.{Used, Named, Arc, Tidy}
 use Rattle.rows.specs.Reach.{reachedFrom, reached}
 use Rattle.rows.specs.Growth.{Grown}
-use Rattle.rows.proofs.Facts.{used-same, row-inside, used-in-use}
+use Rattle.rows.proofs.Facts.{used-same, row-inside}
 use Rattle.rows.proofs.Cells.{same-mark, same-target}
 use Rattle.rows.proofs.Rules.{sound-facts}
 use Rattle.rows.proofs.Words.{words-none, mark-word}
-use Rattle.rows.proofs.Reach.{reached-root, reached-arc, reached-all, reached-used}
+use Rattle.rows.proofs.Reach.{reached-root, reached-arc, reached-all}
 use Rattle.rows.proofs.Books.{start-in, start-named, lists-sixteen, list-names, starts-named}
 use Rattle.rows.proofs.Growth.{words-same, lists-kept}
 use Rattle.index.specs.Arcs.{arcsOf, arcsTo}
 use Rattle.index.specs.Index.{ArcsAt}
 use Rattle.reaching.specs.Leads.{ReachedWith}
-use Rattle.minimal.proofs.Theorems.{starts-need}
+use Rattle.minimal.proofs.Theorems.{used-need, starts-need}
 use Rattle.settling.specs.Settled.{withStart, Startable, fits, Settles, Changed}
 use Rattle.settling.proofs.Parts.{Part, part-tidy}
 use Rattle.settling.proofs.Swept.{only-length, swept-grown, swept-lists, swept-sound}
@@ -213,19 +214,9 @@ module _ (t : Table) (m r : ℕ) (tidy : Tidy t) (below : m < missions) where
   pub start-arcs : (index : List ℕ) → ArcsAt t index → ArcsAt (withStart t m r) index
   start-arcs index at s some inside = at s some (rw (start-long t m r below) at inside) ∙ sym (arcs-same s)
 
-pub clear-fits : (t : Table) → sound t ≡ true → (m : ℕ) → m < missions → fits t m [] ≡ true
-clear-fits t e m below =
-    let facts = sound-facts t e in
-    let none = no-row-startable t in
-    let v = withStart t m 0 in
-    let tidy = start-tidy t m 0 (facts .tidy) below none in
-    let used : (s : ℕ) → reached v s ≡ true → inUse t s ≡ true =
-    λ s d. used-in-use (used-before t m 0 below s (reached-used v tidy (starts v) (starts-named v tidy) s d))
-    in
-    let enough : countOf (rowCount v) (λ s. reached v s) ≤ room v =
-    rw (start-long t m 0 below) (omega (arith, count-more (rowCount t) (λ s. reached v s) (λ s. inUse t s) used, facts .fits))
-    in
-    rw (words-none t 0 refl) at (sym (start-fits t m 0 (facts .tidy) below none) ∙ le-leb _ (room v) enough)
+pub clear-fits : (t : Table) → sound t ≡ true → (m : ℕ) → fits t m [] ≡ true
+clear-fits t e m =
+    le-leb (need (replace (lists t) m [])) (room t) (omega (arith, need-cleared (lists t) m, used-need t e, sound-facts t e .fits))
 
 module _ (t u after : Table) (e : sound t ≡ true) (tidy : Tidy u) (grown : Grown t u) (m r : ℕ) (below : m < missions)
     (startable : Startable u r) where

@@ -1,5 +1,5 @@
 -- `used` meets its promise: its two tests are all that can refuse it, and a sound book has as many rows in use as its lists need. Assumes nothing.
-use mathlib.Core.Path.{_≡_, refl, sym, _∙_, ap}
+use mathlib.Core.Path.{_≡_, refl, sym, ap}
 use mathlib.Core.Bool.{true}
 use native.Mathlib.Omega.{arith}
 use mathlib.Core.List.{[]}

@@ -1,5 +1,5 @@
 -- `nth` meets its promise: its first tests refuse it, or leave a sound book, a mission and a buffer that is long enough. Assumes nothing.
-use mathlib.Core.Path.{_≡_, sym, _∙_}
+use mathlib.Core.Path.{sym, _∙_}
 use borrow.Author.Needs.{needs}
 use borrow.Author.Tests.{leb-true}
 use lib.Dec.{leb}
