@@ -1,7 +1,7 @@
 // The rows, reading half: the table's length and room, and a row's numbers by name. Each promise is an equation
 // with a definition of specs/. The other crates of the rows layer (README, "How the crates lie") go by those
-// names and by the laws of proofs/; where in the slice a number stands only `growing` and `settling` know
-// besides, which write rows. The calls look into no row.
+// names and by the laws of proofs/; where in the slice a row stands only `growing` and `settling`, which write
+// rows, and `rules`, which asks whether a row is zeros, know besides. The calls look into no row.
 mod fill;
 mod skips;
 mod table;
