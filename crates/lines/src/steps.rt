@@ -1,11 +1,16 @@
 // The desk program as steps: each prints what fits into the buffer, and says where the program then stands.
 use super::names::follow;
-use super::replies::answer;
+use super::replies::call;
+use super::requests::Request;
+use super::requests::name_of;
+use super::requests::request_of;
 use calls::empty;
 use counting::MOST_NAMES;
 use letters::name_at;
 use letters::name_end;
 use printing::copy_front;
+use printing::put_answer;
+use printing::put_other;
 use rows::WIDTH;
 ghost use Prim.Native.Nat.{_+_, _≤_, _<_};
 ghost use mathlib.Core.Path.{_≡_};
@@ -13,6 +18,7 @@ ghost use lib.ListN.{length, replicate};
 ghost use Rattle.sets.specs.Cut.{mostNames};
 ghost use Rattle.model.specs.Call.{overlaid};
 ghost use Rattle.printing.specs.Printed.{spare};
+ghost use Rattle.lines.specs.Promises.{Answered};
 ghost use Rattle.lines.specs.Steps.{deskNumbers, mostInput, tooLong, beginning, firstLine, overAfter, nextLine, isPlace, ready, stageOf, Does, Steps};
 
 // "at most 8,192 bytes".
@@ -136,6 +142,21 @@ fn begin(t: &mut [u16]) -> Place
         names: 0,
         bytes: 0,
         over: false,
+    }
+}
+
+// Does what a line asks for, and writes the answer to the front of the buffer: the line, the number and
+// the value; or that the line, the n-th, is none of the desk's. Says how many bytes the answer has.
+fn answer(t: &mut [u16], line: &[u8], n: u32, out: &mut [u8]) -> usize
+    requires { ⌜ length (now line) + spare ≤ length (now out) ⌝ }
+    ensures { λ k. ⌜ Answered (now (t .entry)) (now (t .exit)) (now (line .entry)) n (now (out .entry)) (now (out .exit)) k ⌝ }
+{
+    match request_of(line) {
+        Request::Call { kind, mission } => {
+            let reply = call(t, kind, mission, name_of(line));
+            put_answer(line, reply.number, reply.value, out)
+        }
+        Request::Other => put_other(n, out),
     }
 }
 

@@ -2,8 +2,8 @@
 use mathlib.Core.Path.{refl, sym, _∙_}
 use borrow.Author.Needs.{needs}
 use Rattle.lines.proofs.Answered.{call-answered}
-use Rattle.lines.proofs.replies.answer.Statement.{statement}
-use Rattle.lines.proofs.replies.answer.Tie as tie
+use Rattle.lines.proofs.steps.answer.Statement.{statement}
+use Rattle.lines.proofs.steps.answer.Tie as tie
 
 request-of-requires : tie.Need-request-of-requires
 request-of-requires c κs = search needs
