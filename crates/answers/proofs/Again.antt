@@ -65,7 +65,7 @@ abbrev answerOf : Reply → Answer
 answerOf o = numbered (o .number) (answer.Done (o .value)) answer.Refused
 
 abbrev askedOf : Reply → Asked
-askedOf o = numbered (o .number) (cond (eqb (o .value) 1) asked.OnList asked.NotOnList) asked.Refused
+askedOf o = numbered (o .number) (cond (eqb (o .value) 1) (asked.OnList (o .second)) (asked.NotOnList (o .second))) asked.Refused
 
 abbrev followingOf : Reply → Following
 followingOf o = numbered (o .number) (following.Letters (o .value) (o .second)) following.Refused
@@ -75,8 +75,8 @@ answer-again (answer.Done value) = refl
 answer-again (answer.Refused r) = refusal-again r _ _
 
 asked-again : (a : Asked) → askedOf (askReply a) ≡ a
-asked-again asked.OnList = refl
-asked-again asked.NotOnList = refl
+asked-again (asked.OnList followed) = refl
+asked-again (asked.NotOnList followed) = refl
 asked-again (asked.Refused r) = refusal-again r _ _
 
 following-again : (a : Following) → followingOf (nextReply a) ≡ a

@@ -26,11 +26,14 @@ refusalNumber TooMany = 9
 refusalNumber NotUnder = 10
 refusalNumber NoRoom = 11
 
--- "Each call answers a number and a value"; next also a second value, which is 0 of every other call
-abbrev pub doneReply : ℕ → Reply
-doneReply value = record { number = 0; value = value; second = 0 }
+-- "Each call answers a number and a value"; ask and next also a second value, which is 0 of every other call
+abbrev pub doneBoth : ℕ → ℕ → Reply
+doneBoth value second = record { number = 0; value = value; second = second }
 
--- "A refusal has value 0 (next: both values 0)"
+abbrev pub doneReply : ℕ → Reply
+doneReply value = doneBoth value 0
+
+-- "A refusal has value 0 (next: both values 0)"; 02, wish 1: "A refusal reports 0."
 abbrev pub refusedReply : Refusal → Reply
 refusedReply r = record { number = refusalNumber r; value = 0; second = 0 }
 
@@ -38,15 +41,15 @@ abbrev pub answerReply : Answer → Reply
 answerReply (answer.Done value) = doneReply value
 answerReply (answer.Refused r) = refusedReply r
 
--- "ask 1 or 0."
+-- "ask 1 or 0." 02, wish 1: "ask shall also report the arcs it followed."
 abbrev pub askReply : Asked → Reply
-askReply asked.OnList = doneReply 1
-askReply asked.NotOnList = doneReply 0
+askReply (asked.OnList followed) = doneBoth 1 followed
+askReply (asked.NotOnList followed) = doneBoth 0 followed
 askReply (asked.Refused r) = refusedReply r
 
 -- next's values: the letters that may follow as a sum, and their number
 abbrev pub nextReply : Following → Reply
-nextReply (following.Letters set count) = record { number = 0; value = set; second = count }
+nextReply (following.Letters set count) = doneBoth set count
 nextReply (following.Refused r) = refusedReply r
 
 -- what the model says

@@ -32,10 +32,10 @@ pub enum Answer {
     Refused(Refusal),
 }
 
-// ask: "is a name on a mission's list?"
+// ask: "is a name on a mission's list?" And "the arcs it followed".
 pub enum Asked {
-    OnList,
-    NotOnList,
+    OnList(u32),
+    NotOnList(u32),
     Refused(Refusal),
 }
 

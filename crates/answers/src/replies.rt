@@ -4,9 +4,9 @@ use super::cases::Asked;
 use super::cases::Following;
 use super::cases::Refusal;
 ghost use mathlib.Core.Path.{_≡_};
-ghost use Rattle.answers.specs.Replies.{refusalNumber, doneReply, refusedReply, answerReply, askReply, nextReply};
+ghost use Rattle.answers.specs.Replies.{refusalNumber, doneBoth, refusedReply, answerReply, askReply, nextReply};
 
-// "Each call answers a number and a value"; next also a second value, which is 0 of every other call.
+// "Each call answers a number and a value"; ask and next also a second value, which is 0 of every other call.
 pub struct Reply {
     pub number: u32,
     pub value: u64,
@@ -42,13 +42,13 @@ fn refused(r: Refusal) -> Reply
     }
 }
 
-fn done(value: u32) -> Reply
-    ensures { λ r. ⌜ r ≡ doneReply value ⌝ }
+fn done(value: u64, second: u32) -> Reply
+    ensures { λ r. ⌜ r ≡ doneBoth value second ⌝ }
 {
     Reply {
         number: 0,
-        value: value as u64,
-        second: 0,
+        value,
+        second,
     }
 }
 
@@ -56,7 +56,7 @@ pub fn answer_reply(a: Answer) -> Reply
     ensures { λ r. ⌜ r ≡ answerReply a ⌝ }
 {
     match a {
-        Answer::Done(value) => done(value),
+        Answer::Done(value) => done(value as u64, 0),
         Answer::Refused(r) => refused(r),
     }
 }
@@ -65,8 +65,8 @@ pub fn ask_reply(a: Asked) -> Reply
     ensures { λ r. ⌜ r ≡ askReply a ⌝ }
 {
     match a {
-        Asked::OnList => done(1),
-        Asked::NotOnList => done(0),
+        Asked::OnList(followed) => done(1, followed),
+        Asked::NotOnList(followed) => done(0, followed),
         Asked::Refused(r) => refused(r),
     }
 }
@@ -75,11 +75,7 @@ pub fn next_reply(a: Following) -> Reply
     ensures { λ r. ⌜ r ≡ nextReply a ⌝ }
 {
     match a {
-        Following::Letters { set, count } => Reply {
-            number: 0,
-            value: set,
-            second: count,
-        },
+        Following::Letters { set, count } => done(set, count),
         Following::Refused(r) => refused(r),
     }
 }

@@ -13,7 +13,7 @@ anyRoom = 1000
 
 -- "P1 Empty book: used 0; ask A for mission 0: 0."
 abbrev p1 : Script
-p1 = record { room = anyRoom; steps = gives used 0 0 ∷ gives (ask 0 (bytes "A")) 0 0 ∷ [] }
+p1 = record { room = anyRoom; steps = gives used 0 0 ∷ pair (ask 0 (bytes "A")) 0 0 ∷ [] }
 
 -- "P2 SLEW to mission 0: used 5. P3 Then SLEW to mission 1: still 5."
 -- "P4 Then SLEWA to mission 0: used 10; mission 1 has no SLEWA. P5 Remove it: used 5."
@@ -28,7 +28,7 @@ p2-to-p5 =
           ∷ gives used 0 5
           ∷ gives (add 0 (bytes "SLEWA")) 0 1
           ∷ gives used 0 10
-          ∷ gives (ask 1 (bytes "SLEWA")) 0 0
+          ∷ pair (ask 1 (bytes "SLEWA")) 0 4
           ∷ gives (remove 0 (bytes "SLEWA")) 0 1
           ∷ gives used 0 5
           ∷ [];

@@ -2,11 +2,12 @@
 -- Assumes nothing.
 use Prim.Native.Nat.{ℕ, suc, _-_, _≤_, _<_}
 use mathlib.Core.Path.{_≡_, refl}
-use mathlib.Core.Bool.{true, and-eq-true-iff}
+use mathlib.Core.Bool.{true, _&&_, and-eq-true-iff}
 use mathlib.Core.List.{List, [], _∷_}
 use native.Mathlib.Nat.{not-suc-le-zero}
 use native.Mathlib.Omega.{arith}
 use borrow.Author.Tests.{ltb-true, leb-true, lt-ltb, le-leb}
+use lib.Dec.{ltb}
 use lib.ListN.{length, getD, length-map}
 use lib.Seq.{take-all}
 use Rattle.letters.specs.Letters.{letters, letter}
@@ -26,11 +27,15 @@ pub rest-length : (bytes : List ℕ) → 0 < length bytes → suc (length (rest 
 rest-length [] some = absurd (not-suc-le-zero some)
 rest-length (b ∷ bytes) some = rw (all-left b bytes)
 
+pub spelled-step : (bytes : List ℕ) → 0 < length bytes → spelled bytes ≡ (ltb (letter (getD bytes 0 0)) letters && spelled (rest bytes))
+spelled-step [] some = absurd (not-suc-le-zero some)
+spelled-step (b ∷ bytes) some = rw (all-left b bytes)
+
 pub spelled-rest : (bytes : List ℕ) → 0 < length bytes → Spelled (wordOf bytes)
     → (letter (getD bytes 0 0) < letters) × Spelled (wordOf (rest bytes))
 spelled-rest bytes some s = rw (word-rest bytes some) at s
 
-spelled-word : (bytes : List ℕ) → spelled bytes ≡ true → Spelled (wordOf bytes)
+pub spelled-word : (bytes : List ℕ) → spelled bytes ≡ true → Spelled (wordOf bytes)
 spelled-word [] e = tt
 spelled-word (b ∷ bytes) e =
     let parts = and-eq-true-iff _ _ .0 e in
@@ -50,9 +55,9 @@ pub name-parts : (bytes : List ℕ) → isName bytes ≡ true → (0 < length by
 unfolding isName
 name-parts bytes e =
     let parts = and-eq-true-iff _ _ .0 e in
-    let prefix = prefix-parts bytes (parts .1) in
-    (leb-true _ _ (parts .0), prefix .0, prefix .1)
+    let long = and-eq-true-iff _ _ .0 (parts .0) in
+    (leb-true _ _ (long .0), leb-true _ _ (long .1), spelled-word bytes (parts .1))
 
 pub name-bytes : (w : Word) → 0 < length w → length w ≤ longest → Spelled w → isName (bytesOf w) ≡ true
-unfolding isName isPrefix
+unfolding isName
 name-bytes w some few s = simp (length-map, le-leb _ _ some, le-leb _ _ few, spelled-bytes w s)

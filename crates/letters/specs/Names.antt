@@ -16,9 +16,15 @@ abbrev pub spelled : List ℕ → Bool
 spelled bytes = every (λ b. ltb (letter b) letters) bytes
 
 -- "the prefix given to next may be empty and has at most 24 letters"
+abbrev pub longAsPrefix : List ℕ → Bool
+longAsPrefix bytes = leb (length bytes) longest
+
 unfoldable pub isPrefix : List ℕ → Bool
-isPrefix bytes = leb (length bytes) longest && spelled bytes
+isPrefix bytes = longAsPrefix bytes && spelled bytes
 
 -- "A name has 1 to 24 letters. The empty word is no name"
+abbrev pub longAsName : List ℕ → Bool
+longAsName bytes = leb 1 (length bytes) && longAsPrefix bytes
+
 unfoldable pub isName : List ℕ → Bool
-isName bytes = leb 1 (length bytes) && isPrefix bytes
+isName bytes = longAsName bytes && spelled bytes

@@ -3,7 +3,7 @@ use super::bytes::LETTERS;
 use super::bytes::letter_of;
 ghost use mathlib.Core.Path.{_≡_};
 ghost use Rattle.letters.specs.Words.{wordOf, order, before};
-ghost use Rattle.letters.specs.Names.{spelled, isName, isPrefix};
+ghost use Rattle.letters.specs.Names.{spelled, longAsPrefix, longAsName, isName};
 ghost use Rattle.letters.specs.Orders.{orderIs};
 
 // The letters of the longest name.
@@ -17,7 +17,7 @@ pub enum Order {
 }
 
 // Is every byte a letter?
-fn is_spelled(s: &[u8]) -> bool
+pub fn is_spelled(s: &[u8]) -> bool
     ensures { λ r. ⌜ r ≡ spelled (now (s .entry)) ⌝ }
 {
     let mut i = 0;
@@ -30,24 +30,31 @@ fn is_spelled(s: &[u8]) -> bool
     true
 }
 
-// Is it a prefix: at most 24 letters?
-pub fn is_prefix(s: &[u8]) -> bool
-    ensures { λ r. ⌜ r ≡ isPrefix (now (s .entry)) ⌝ }
+// Is it as long as a prefix: at most 24 bytes?
+pub fn long_as_prefix(s: &[u8]) -> bool
+    ensures { λ r. ⌜ r ≡ longAsPrefix (now (s .entry)) ⌝ }
 {
-    if LONGEST < s.len() {
+    s.len() <= LONGEST
+}
+
+// Is it as long as a name: 1 to 24 bytes?
+pub fn long_as_name(s: &[u8]) -> bool
+    ensures { λ r. ⌜ r ≡ longAsName (now (s .entry)) ⌝ }
+{
+    if s.len() == 0 {
         return false;
     }
-    is_spelled(s)
+    long_as_prefix(s)
 }
 
 // Is it a name: 1 to 24 letters?
 pub fn is_name(s: &[u8]) -> bool
     ensures { λ r. ⌜ r ≡ isName (now (s .entry)) ⌝ }
 {
-    if s.len() == 0 {
+    if !long_as_name(s) {
         return false;
     }
-    is_prefix(s)
+    is_spelled(s)
 }
 
 // How the word of a stands to the word of b.

@@ -1,5 +1,5 @@
 -- What a renumbering carries, whatever numbers the two tables hold. A number is a row exactly if the number that it is carried to is one. So a
--- walk goes the same way and ends where the other's end is carried to, ask and next say the same, and the words are the same. No two numbers
+-- walk goes the same way and ends where the other's end is carried to, with the same letters left; ask and next say the same, and the words are the same. No two numbers
 -- are carried to the same; so a renumbering goes back, and another goes on from it. Assumes nothing.
 use Prim.Native.Nat.{ℕ, _<_}
 use native.Mathlib.Omega.{arith}
@@ -13,9 +13,9 @@ use Rattle.letters.specs.Words.{Word, Spelled}
 use Rattle.letters.proofs.Tests.{by-test}
 use Rattle.model.specs.Lists.{missions}
 use Rattle.rows.specs.Table.{Table, isRow, start, mark, height, target, number39, ends}
-use Rattle.rows.specs.Walk.{walkFrom, accepts, hasArc, follows}
+use Rattle.rows.specs.Walk.{Walk, walkFrom, accepts, followed, hasArc, follows}
 use Rattle.rows.specs.Words.{words, lists}
-use Rattle.rows.proofs.Walk.{walk-none, walk-empty, walk-step}
+use Rattle.rows.proofs.Walk.{walk-none, walk-empty, walk-on, walk-stops}
 use Rattle.rows.proofs.Books.{lists-sixteen, list-names}
 use Rattle.rows.proofs.Growth.{words-carried}
 use Rattle.minimal.specs.Renumbered.{Renumbered}
@@ -33,14 +33,27 @@ module _ (t u : Table) (by : Renumbered t u) where
   to-is-row : (n : ℕ) → isRow u (to n) ≡ isRow t n
   to-is-row n = by-test (isRow t n) (λ row. by .to-row n row ∙ sym row) (λ out. rw (by .others n out) (same-row n))
 
-  nowhere-to : (w : Word) (n : ℕ) → isRow t n ≡ false → walkFrom u w (to n) .row ≡ to (walkFrom t w n .row)
-  nowhere-to w n out = rw (walk-none t n out w, walk-none u (to n) (to-is-row n ∙ out) w) (sym to-none)
+  -- a walk whose end is carried
+  abbrev carried : Walk → Walk
+  carried walk = record { row = to (walk .row); left = walk .left }
 
-  to-walk : (w : Word) → Spelled w → (n : ℕ) → walkFrom u w (to n) .row ≡ to (walkFrom t w n .row)
+  nowhere-to : (w : Word) (n : ℕ) → isRow t n ≡ false → walkFrom u w (to n) ≡ carried (walkFrom t w n)
+  nowhere-to w n out = rw (walk-none t n out w, walk-none u (to n) (to-is-row n ∙ out) w, to-none)
+
+  to-walk : (w : Word) → Spelled w → (n : ℕ) → walkFrom u w (to n) ≡ carried (walkFrom t w n)
   to-walk [] s n = by-test (isRow t n) (λ row. rw (walk-empty t n row, walk-empty u (to n) (by .to-row n row))) (nowhere-to [] n)
   to-walk (x ∷ w) s n =
       by-test (isRow t n)
-      (λ row. rw (walk-step t n row x w, walk-step u (to n) (by .to-row n row) x w, by .targets n x row (s .0)) (to-walk w (s .1) (target t n x)))
+      (λ row.
+      let there = by .to-row n row in
+      let arc = by .targets n x row (s .0) in
+      by-test (isRow t (target t n x))
+      (λ on.
+      let on-there : isRow u (target u (to n) x) ≡ true = rw arc (by .to-row (target t n x) on) in
+      rw (walk-on t n row x w on, walk-on u (to n) there x w on-there, arc) (to-walk w (s .1) (target t n x)))
+      (λ stops.
+      let stops-there : isRow u (target u (to n) x) ≡ false = rw arc (to-is-row (target t n x) ∙ stops) in
+      rw (walk-stops t n row x w stops, walk-stops u (to n) there x w stops-there, to-none)))
       (nowhere-to (x ∷ w) n)
 
   to-ends : (n : ℕ) → ends u (to n) ≡ ends t n
@@ -52,6 +65,9 @@ module _ (t u : Table) (by : Renumbered t u) where
 
   pub to-accepts : (w : Word) → Spelled w → (n : ℕ) → accepts u w (by .to n) ≡ accepts t w n
   to-accepts w s n = rw (to-walk w s n) (to-ends (walkFrom t w n .row))
+
+  pub to-followed : (w : Word) → Spelled w → (n : ℕ) → followed u w (by .to n) ≡ followed t w n
+  to-followed w s n = rw (to-walk w s n)
 
   pub to-follows : (w : Word) → Spelled w → (n x : ℕ) → x < letters → follows u w (by .to n) x ≡ follows t w n x
   to-follows w s n x h = rw (to-walk w s n) (to-arc (walkFrom t w n .row) x h)

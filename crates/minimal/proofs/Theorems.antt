@@ -15,8 +15,10 @@ use Rattle.sets.specs.Automata.{size, Theorem5, Minimal}
 use Rattle.sets.proofs.Below.{tests-agree}
 use Rattle.sets.proofs.Served.{none-fewer}
 use Rattle.model.specs.Lists.{missions, SixteenSets, listOf, mayFollow}
+use Rattle.model.specs.Prefixes.{howFar, LongestPrefix}
+use Rattle.model.proofs.Prefixes.{how-far-longest}
 use Rattle.rows.specs.Table.{Table, rowCount, start, starts, height, inUse, usedRows}
-use Rattle.rows.specs.Walk.{accepts, Longest, follows}
+use Rattle.rows.specs.Walk.{accepts, followed, Longest, follows}
 use Rattle.rows.specs.Words.{words, lists}
 use Rattle.rows.specs.Rules.{sound}
 use Rattle.rows.specs.Tidy.{Used, Named, Tidy}
@@ -25,14 +27,14 @@ use Rattle.rows.specs.Growth.{Useful}
 use Rattle.rows.proofs.Facts.{in-use-used}
 use Rattle.rows.proofs.Rules.{sound-facts, facts-sound}
 use Rattle.rows.proofs.Heights.{height-longest}
-use Rattle.rows.proofs.Books.{lists-sixteen, lists-plain, lists-names, starts-named, ask-plain, next-plain, sound-reached}
+use Rattle.rows.proofs.Books.{lists-sixteen, lists-plain, lists-names, starts-named, ask-plain, far-plain, next-plain, sound-reached}
 use Rattle.minimal.specs.Book.{automaton}
 use Rattle.minimal.specs.Places.{OneToOne}
 use Rattle.minimal.specs.Renumbered.{Renumbered}
 use Rattle.minimal.proofs.Places.{reached-need, used-in-states, used-one-to-one, used-rows-need, useful-rows, useful-reached}
 use Rattle.minimal.proofs.Book.{state-used, automaton-size, automaton-once, automaton-languages}
 use Rattle.minimal.proofs.Book.{automaton-acyclic, automaton-reached, automaton-useful, automaton-different}
-use Rattle.minimal.proofs.Carried.{home-renumbered, on-renumbered, to-accepts, to-follows, to-lists}
+use Rattle.minimal.proofs.Carried.{home-renumbered, on-renumbered, to-accepts, to-followed, to-follows, to-lists}
 use Rattle.minimal.proofs.Renumbering.{renumbered-sound}
 use Rattle.minimal.proofs.Matching.{matched-renumbered}
 
@@ -124,6 +126,10 @@ pub renumbered-ask : (t u : Table) → Renumbered t u → (m : ℕ) → m < miss
     → accepts u w (start u m) ≡ accepts t w (start t m)
 renumbered-ask t u by m h w s = rw (by .starts m h) (to-accepts t u by w s (start t m))
 
+pub renumbered-followed : (t u : Table) → Renumbered t u → (m : ℕ) → m < missions → (w : Word) → Spelled w
+    → followed u w (start u m) ≡ followed t w (start t m)
+renumbered-followed t u by m h w s = rw (by .starts m h) (to-followed t u by w s (start t m))
+
 pub renumbered-next : (t u : Table) → Renumbered t u → (m : ℕ) → m < missions → (w : Word) → Spelled w → (x : ℕ) → x < letters
     → follows u w (start u m) x ≡ follows t w (start t m) x
 renumbered-next t u by m h w s x g = rw (by .starts m h) (to-follows t u by w s (start t m) x g)
@@ -150,6 +156,15 @@ sound-lists t e = record { sixteen = lists-sixteen t; plain = lists-plain t; nam
 pub sound-ask : (t : Table) → sound t ≡ true → (m : ℕ) → m < missions → (w : Word) → Spelled w
     → accepts t w (start t m) ≡ member w (listOf (lists t) m)
 sound-ask t e = ask-plain t (sound-facts t e .tidy)
+
+pub sound-far : (t : Table) → sound t ≡ true → (m : ℕ) → m < missions → (w : Word) → Spelled w
+    → followed t w (start t m) ≡ howFar w (listOf (lists t) m)
+sound-far t e = far-plain t (sound-facts t e .tidy)
+
+-- 02, wish 1: and the arcs that the walk follows are "the length of the longest prefix of the given name that some name on the list begins with".
+pub sound-followed : (t : Table) → sound t ≡ true → (m : ℕ) → m < missions → (w : Word) → Spelled w
+    → LongestPrefix w (listOf (lists t) m) (followed t w (start t m))
+sound-followed t e m h w s = rw (sound-far t e m h w s) (how-far-longest w (listOf (lists t) m))
 
 pub sound-next : (t : Table) → sound t ≡ true → (m : ℕ) → m < missions → (u : Word) → Spelled u → (x : ℕ) → x < letters
     → follows t u (start t m) x ≡ mayFollow u (listOf (lists t) m) x

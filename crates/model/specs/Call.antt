@@ -34,7 +34,7 @@ pub record Book : Type 0 where
 abbrev pub bookWith : ℕ → List Words → Book
 bookWith room ls = record { lengthOk = true; sound = true; room = room; lists = ls }
 
--- "Each call answers a number and a value." next answers a second value, nth writes bytes to the front of its buffer, and some calls change
+-- "Each call answers a number and a value." ask and next answer a second value, nth writes bytes to the front of its buffer, and some calls change
 -- the lists.
 pub record Outcome : Type 0 where
   pub number : ℕ

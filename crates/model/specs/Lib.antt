@@ -1,5 +1,6 @@
 -- The calls on sixteen plain sets of names. Nothing here knows of rows. Assumes nothing.
 pub mod Lists
+pub mod Prefixes
 pub mod Call
 pub mod Refusals
 pub mod Rules

@@ -11,6 +11,7 @@ use Rattle.letters.specs.LetterSet.{flag, sumOf, countOf}
 use Rattle.sets.specs.Sets.{Words, member, insert, delete, both, common, without}
 use Rattle.sets.specs.Residuals.{need}
 use Rattle.model.specs.Lists.{listOf, replace, emptyLists, hasNames, rankOf, nthOf, mayFollow}
+use Rattle.model.specs.Prefixes.{howFar}
 use Rattle.model.specs.Call.{Book, Outcome}
 use Rattle.model.specs.Refusals.{Refusal, badLength, badMission, badOperation, noName, noPrefix, noList, shortBuffer, notSound, notEmpty, tooMany, notUnder, noRoom}
 
@@ -27,6 +28,10 @@ leaves after value = record { number = 0; value = value; second = 0; written = [
 abbrev pub answers : Book → ℕ → Outcome
 answers b value = leaves (b .lists) value
 
+-- a call that only answers two values
+abbrev pub answersBoth : Book → ℕ → ℕ → Outcome
+answersBoth b value second = record { number = 0; value = value; second = second; written = []; lists = b .lists }
+
 -- "empty: make an empty book of the slice." "check and empty 0; empty sets every number to 0"
 abbrev pub emptyRule : Book → Rule
 emptyRule b = record { refusals = badLength b ∷ []; done = leaves emptyLists 0 }
@@ -35,12 +40,14 @@ emptyRule b = record { refusals = badLength b ∷ []; done = leaves emptyLists 0
 abbrev pub checkRule : Book → Rule
 checkRule b = record { refusals = badLength b ∷ notSound b ∷ []; done = answers b 0 }
 
--- "ask: is a name on a mission's list?" "ask 1 or 0."
+-- "ask: is a name on a mission's list?" "ask 1 or 0." 02, wish 1: "ask shall also report the arcs it followed."
 abbrev pub askRule : Book → ℕ → List ℕ → Rule
 askRule b m name =
+    let w = wordOf name in
+    let l = listOf (b .lists) m in
     record {
       refusals = badLength b ∷ badMission m ∷ noName name ∷ [];
-      done = answers b (flag (member (wordOf name) (listOf (b .lists) m)));
+      done = answersBoth b (flag (member w l)) (howFar w l);
     }
 
 -- "next answers the sum of 2 to the power x over the letters x that may follow. The number of letters that may follow is also answered."
@@ -49,14 +56,7 @@ nextRule b m prefix =
     let follows = mayFollow (wordOf prefix) (listOf (b .lists) m) in
     record {
       refusals = badLength b ∷ badMission m ∷ noPrefix prefix ∷ [];
-      done =
-          record {
-            number = 0;
-            value = sumOf letters follows;
-            second = countOf letters follows;
-            written = [];
-            lists = b .lists;
-          };
+      done = answersBoth b (sumOf letters follows) (countOf letters follows);
     }
 
 -- "add and remove one name": the list with the name on it, or off it

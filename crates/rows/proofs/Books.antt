@@ -1,5 +1,5 @@
 -- The sixteen lists of a table, and the rows of a sound book. The lists are plain on every table, and on a tidy one they are lists of names: a
--- start has mark 1, so the empty word is none of its words. There ask and next say what the plain sets say. In a sound book every row in use
+-- start has mark 1, so the empty word is none of its words. There ask and next say what the plain sets say: whether the name is there, how far it gets, what may follow. In a sound book every row in use
 -- is reached from a start: it is one, or the target of a higher row; and no row is higher than the longest name. Assumes nothing.
 use Prim.Native.Nat.{ℕ, zero, suc, _+_, _<_}
 use native.Mathlib.Omega.{arith}
@@ -19,14 +19,17 @@ use Rattle.sets.proofs.Sets.{member-each, members-each}
 use Rattle.sets.proofs.Membership.{In, here, each-map}
 use Rattle.sets.proofs.Below.{in-over, length-each, each-at, each-given}
 use Rattle.model.specs.Lists.{missions, listOf, hasNames, mayFollow}
+use Rattle.model.specs.Prefixes.{howFar}
+use Rattle.model.proofs.Prefixes.{how-far-none, how-far-empty, how-far-step}
 use Rattle.rows.specs.Table.{Table, isRow, start, starts, height, target}
-use Rattle.rows.specs.Walk.{walkFrom, accepts, hasArc, follows}
+use Rattle.rows.specs.Walk.{walkFrom, accepts, followed, hasArc, follows}
 use Rattle.rows.specs.Words.{shortWords, words, names, lists}
 use Rattle.rows.specs.Tidy.{Used, Named, Tidy, Sound}
 use Rattle.rows.specs.Reach.{reached}
 use Rattle.rows.proofs.Facts.{no-row, used-row, named-cases, target-named}
 use Rattle.rows.proofs.Words.{words-plain, words-short, words-none, member-words, empty-word, words-target, has-word}
 use Rattle.rows.proofs.Words.{walk-named, words-walk}
+use Rattle.rows.proofs.Walk.{followed-none, followed-step}
 use Rattle.rows.proofs.Reach.{reached-root, reached-arc}
 
 filled-names : (l : Words) → Filled l → hasNames l ≡ true
@@ -106,6 +109,21 @@ module _ (t : Table) where
         let named = start-named m h in
         rw (list-names m h, ← (words-walk t tidy u s (start t m) named))
         (row-follows (walkFrom t u (start t m) .row) x (walk-named t tidy u s (start t m) named) g)
+
+    -- how far a word gets from a row, and from a mission's start
+    row-far : (w : Word) → Spelled w → (n : ℕ) → Named t n → followed t w n ≡ howFar w (words t n)
+    row-far [] s n named = rw (how-far-empty (words t n)) (omega arith)
+    row-far (x ∷ w) s n named =
+        elim (named-cases named) [
+          | inl u ↦
+              let below = target-named t tidy n x u (s .0) in
+              rw (followed-step t n (used-row u) x w, how-far-step x w (words t n), ← (words-target t tidy n x u (s .0)))
+              (rw (row-names (target t n x) below, row-far w (s .1) (target t n x) below))
+          | inr e ↦ let out = no-row t n e in rw (followed-none t n out (x ∷ w), words-none t n out) (sym (how-far-none (x ∷ w)))
+        ]
+
+    pub far-plain : (m : ℕ) → m < missions → (w : Word) → Spelled w → followed t w (start t m) ≡ howFar w (listOf (lists t) m)
+    far-plain m h w s = rw (list-names m h) (row-far w s (start t m) (start-named m h))
 
   pub sound-reached : Sound t → (r : ℕ) → Used t r → reached t r ≡ true
   sound-reached sound r u = climb (suc longest) r u (omega arith)

@@ -1,5 +1,5 @@
 -- 01: "ask and next work on any numbers." The walk of a word through a table. Assumes nothing.
-use Prim.Native.Nat.{ℕ, _≤_}
+use Prim.Native.Nat.{ℕ, _-_, _≤_}
 use mathlib.Core.Path.{_≡_}
 use mathlib.Core.Bool.{Bool, true, cond, _&&_}
 use mathlib.Core.List.{[], _∷_}
@@ -24,6 +24,10 @@ walkFrom t w n = cond (isRow t n) (walk t w n) (record { row = 0; left = w })
 -- "ask says 1 exactly when the walk ends on a row with mark 2."
 abbrev pub accepts : Table → Word → ℕ → Bool
 accepts t w n = ends t (walkFrom t w n .row)
+
+-- 02, wish 1: "the number of letters in 01's walk whose target is a row", which are those that are not left
+abbrev pub followed : Table → Word → ℕ → ℕ
+followed t w n = length w - length (walkFrom t w n .left)
 
 -- "Number 1 is the height: the length of the longest word accepted from here.": n is the length of the longest word accepted from the row
 pub record Longest (t : Table) (r n : ℕ) : Type 0 where

@@ -1,5 +1,6 @@
 // The walk of a word, and the arcs of a row.
 use letters::LETTERS;
+use letters::is_spelled;
 use letters::letter_of;
 use letters::with_letter;
 use rows::is_row;
@@ -8,38 +9,66 @@ use rows::start;
 use rows::target;
 ghost use Prim.Native.Nat.{_+_, _*_, _^_, _<_};
 ghost use mathlib.Core.Path.{_≡_};
-ghost use mathlib.Core.Bool.{true};
+ghost use mathlib.Core.Bool.{true, cond};
 ghost use lib.ListN.{length};
 ghost use Rattle.letters.specs.Letters.{letters};
-ghost use Rattle.letters.specs.Words.{Spelled, wordOf};
+ghost use Rattle.letters.specs.Words.{wordOf};
+ghost use Rattle.letters.specs.Names.{spelled};
 ghost use Rattle.letters.specs.LetterSet.{flag, sumOf};
 ghost use Rattle.rows.specs.Table.{isRow, start, ends};
-ghost use Rattle.rows.specs.Walk.{walkFrom, hasArc};
+ghost use Rattle.rows.specs.Walk.{accepts, hasArc};
+ghost use Rattle.walking.specs.Walked.{walked};
 
-// The row where the walk of the word from n ends, or 0. "Each step goes on with what is left of the
-// word after the letters walked."
-fn walk_to(t: &[u16], n: usize, name: &[u8]) -> usize
-    requires { ⌜ Spelled (wordOf (now name)) ⌝ }
-    ensures { λ r. ⌜ r ≡ walkFrom (now (t .entry)) (wordOf (now (name .entry))) n .row ⌝ }
-{
-    if !is_row(t, n) {
-        return 0;
-    }
-    if name.len() == 0 {
-        return n;
-    }
-    let x = letter_of(name[0]);
-    let next = target(t, n, x) as usize;
-    walk_to(t, next, &name[1..])
+// Where the walk of some bytes ends: on a row, or on none (0), with how many letters left. Or one of them is no letter.
+pub enum Walked {
+    Ended { row: usize, left: usize },
+    NoLetter,
 }
 
-// The row where the walk of the word from the mission's start ends, or 0.
-pub fn walk_list(t: &[u16], m: usize, name: &[u8]) -> usize
-    requires { ⌜ (m < length (now t)) × Spelled (wordOf (now name)) ⌝ }
-    ensures { λ r. ⌜ r ≡ walkFrom (now (t .entry)) (wordOf (now (name .entry))) (start (now (t .entry)) m) .row ⌝ }
+// The walk ends on no row, with so many letters left. Those that it has not looked at must be letters too.
+fn stopped(unseen: &[u8], left: usize) -> Walked
+    ensures { λ w. ⌜ w ≡ cond (spelled (now (unseen .entry))) (Walked.Ended 0 left) Walked.NoLetter ⌝ }
+{
+    if is_spelled(unseen) {
+        Walked::Ended { row: 0, left }
+    } else {
+        Walked::NoLetter
+    }
+}
+
+// The walk from a row. "Each step goes on with what is left of the word after the letters walked." A loop and no
+// recursion: the compiler keeps it in registers.
+fn walk_from(t: &[u16], first: usize, word: &[u8]) -> Walked
+    requires { ⌜ isRow (now t) first ≡ true ⌝ }
+    ensures { λ w. ⌜ w ≡ walked (now (t .entry)) (now (word .entry)) first ⌝ }
+{
+    let mut row = first;
+    let mut left = word;
+    while left.len() != 0 {
+        let x = letter_of(left[0]);
+        if x == LETTERS {
+            return Walked::NoLetter;
+        }
+        let next = target(t, row, x) as usize;
+        if !is_row(t, next) {
+            return stopped(&left[1..], left.len());
+        }
+        row = next;
+        left = &left[1..];
+    }
+    Walked::Ended { row, left: 0 }
+}
+
+// The walk from a mission's start.
+pub fn walk_list(t: &[u16], m: usize, word: &[u8]) -> Walked
+    requires { ⌜ m < length (now t) ⌝ }
+    ensures { λ w. ⌜ w ≡ walked (now (t .entry)) (now (word .entry)) (start (now (t .entry)) m) ⌝ }
 {
     let first = start(t, m) as usize;
-    walk_to(t, first, name)
+    if !is_row(t, first) {
+        return stopped(word, word.len());
+    }
+    walk_from(t, first, word)
 }
 
 // May a name end at n?
@@ -50,6 +79,17 @@ pub fn ends(t: &[u16], n: usize) -> bool
         return false;
     }
     mark(t, n) == 2
+}
+
+// Is the name on the mission's list?
+pub fn has_name(t: &[u16], m: usize, name: &[u8]) -> bool
+    requires { ⌜ (m < length (now t)) × (spelled (now name) ≡ true) ⌝ }
+    ensures { λ r. ⌜ r ≡ accepts (now (t .entry)) (wordOf (now (name .entry))) (start (now (t .entry)) m) ⌝ }
+{
+    match walk_list(t, m, name) {
+        Walked::Ended { row, left: _ } => ends(t, row),
+        Walked::NoLetter => false,
+    }
 }
 
 // The set of lower letters, with letter x where its target is a row.

@@ -1,0 +1,2 @@
+-- Where the walk of some bytes ends. Assumes nothing.
+pub mod Walked
