@@ -4,39 +4,52 @@ use admitting::admit_walk;
 use admitting::if_fine;
 use answers::Following;
 use answers::Refusal;
-use letters::is_prefix;
 use letters::letter_count;
+use letters::long_as_prefix;
+use walking::Walked;
 use walking::letter_set;
 use walking::walk_list;
 ghost use Prim.Native.Nat.{_<_};
 ghost use mathlib.Core.Path.{_≡_};
 ghost use mathlib.Core.Bool.{true};
 ghost use mathlib.Core.List.{[]};
-ghost use Rattle.letters.specs.Names.{isPrefix};
+ghost use Rattle.letters.specs.Letters.{letters};
+ghost use Rattle.letters.specs.LetterSet.{sumOf, countOf};
 ghost use Rattle.model.specs.Lists.{missions};
 ghost use Rattle.model.specs.Call.Call.{next};
 ghost use Rattle.rows.specs.Table.{lengthOk};
-ghost use Rattle.answers.specs.Replies.{nextReply, replyOf};
+ghost use Rattle.rows.specs.Walk.{hasArc};
+ghost use Rattle.answers.specs.Replies.{doneBoth, nextReply};
 ghost use Rattle.promises.specs.Walks.{nextWalk};
 ghost use Rattle.promises.specs.Promises.{Promised};
+ghost use Rattle.calls.specs.Spelled.{spelledReply};
 
 // "next reports each letter whose target is a row."
-fn next_walk(t: &[u16], m: usize, prefix: &[u8]) -> Following
-    requires { ⌜ (lengthOk (now t) ≡ true) × (m < missions) × (isPrefix (now prefix) ≡ true) ⌝ }
-    ensures { λ a. ⌜ nextReply a ≡ replyOf (nextWalk (now (t .entry)) m (now (prefix .entry)) .done) ⌝ }
+fn following(t: &[u16], row: usize) -> Following
+    ensures { λ a. ⌜ nextReply a ≡ doneBoth (sumOf letters (λ x. hasArc (now (t .entry)) row x)) (countOf letters (λ x. hasArc (now (t .entry)) row x)) ⌝ }
 {
-    let r = walk_list(t, m, prefix);
-    let set = letter_set(t, r);
+    let set = letter_set(t, row);
     Following::Letters {
         set,
         count: letter_count(set),
     }
 }
 
+// Bytes that are as long as a prefix: a byte that is no letter is found on the way.
+fn next_walk(t: &[u16], m: usize, prefix: &[u8]) -> Following
+    requires { ⌜ (lengthOk (now t) ≡ true) × (m < missions) ⌝ }
+    ensures { λ a. ⌜ nextReply a ≡ spelledReply (now (prefix .entry)) (nextWalk (now (t .entry)) m (now (prefix .entry))) ⌝ }
+{
+    match walk_list(t, m, prefix) {
+        Walked::Ended { row, left: _ } => following(t, row),
+        Walked::NoLetter => Following::Refused(Refusal::Name),
+    }
+}
+
 pub fn next(t: &[u16], m: u32, prefix: &[u8]) -> Following
     ensures { λ a. ⌜ Promised (now (t .entry)) (now (t .entry)) [] [] (next m (now (prefix .entry))) (nextReply a) ⌝ }
 {
-    match admit_walk(t, m, if_fine(is_prefix(prefix), Refusal::Name)) {
+    match admit_walk(t, m, if_fine(long_as_prefix(prefix), Refusal::Name)) {
         Admission::Admitted => next_walk(t, m as usize, prefix),
         Admission::Refused(r) => Following::Refused(r),
     }

@@ -12,7 +12,7 @@ use lib.ListN.{length, getD, length-map}
 use lib.Seq.{take-all}
 use Rattle.letters.specs.Letters.{letters, letter}
 use Rattle.letters.specs.Words.{Word, wordOf, bytesOf, rest, Spelled}
-use Rattle.letters.specs.Names.{longest, spelled, isPrefix, isName}
+use Rattle.letters.specs.Names.{longest, spelled, isPrefix, longAsName, isName}
 use Rattle.letters.proofs.Laws.{letter-byteOf}
 
 all-left : (b : ℕ) (bytes : List ℕ) → rest (b ∷ bytes) ≡ bytes
@@ -51,12 +51,17 @@ prefix-parts bytes e =
     let parts = and-eq-true-iff _ _ .0 e in
     (leb-true _ _ (parts .0), spelled-word bytes (parts .1))
 
+pub long-parts : (bytes : List ℕ) → longAsName bytes ≡ true → (0 < length bytes) × (length bytes ≤ longest)
+long-parts bytes e =
+    let parts = and-eq-true-iff _ _ .0 e in
+    (leb-true _ _ (parts .0), leb-true _ _ (parts .1))
+
 pub name-parts : (bytes : List ℕ) → isName bytes ≡ true → (0 < length bytes) × (length bytes ≤ longest) × Spelled (wordOf bytes)
 unfolding isName
 name-parts bytes e =
     let parts = and-eq-true-iff _ _ .0 e in
-    let long = and-eq-true-iff _ _ .0 (parts .0) in
-    (leb-true _ _ (long .0), leb-true _ _ (long .1), spelled-word bytes (parts .1))
+    let long = long-parts bytes (parts .0) in
+    (long .0, long .1, spelled-word bytes (parts .1))
 
 pub name-bytes : (w : Word) → 0 < length w → length w ≤ longest → Spelled w → isName (bytesOf w) ≡ true
 unfolding isName

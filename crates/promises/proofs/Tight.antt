@@ -24,7 +24,7 @@ use Rattle.model.proofs.Changes.{done-sound}
 use Rattle.rows.specs.Table.{Table, lengthOk}
 use Rattle.rows.specs.Rules.{sound}
 use Rattle.minimal.specs.Renumbered.{Renumbered}
-use Rattle.minimal.proofs.Theorems.{renumbered-self, renumbered-ask, renumbered-next, renumbered-lists, renumbered-sound-same, same-lists-renumbered}
+use Rattle.minimal.proofs.Theorems.{renumbered-self, renumbered-ask, renumbered-followed, renumbered-next, renumbered-lists, renumbered-sound-same, same-lists-renumbered}
 use Rattle.answers.specs.declared.replies.Reply.{Reply}
 use Rattle.answers.specs.Replies.{replyOf}
 use Rattle.promises.specs.Books.{bookOf}
@@ -54,7 +54,9 @@ module _ (t t′ : Table) (by : Renumbered t t′) where
       (λ none.
       let mission = mission-below (bookOf t) call m (there (here refl)) none in
       let named = not-false (isName name) (none-applies (bookOf t) call (noName name) (there (there (here refl))) none) in
-      ap₂ answers same-book (ap flag (renumbered-ask t t′ by m mission (wordOf name) (name-parts name named .2))))
+      let spelled = name-parts name named .2 in
+      rw (renumbered-ask t t′ by m mission (wordOf name) spelled, renumbered-followed t t′ by m mission (wordOf name) spelled,
+      renumbered-lists t t′ by))
 
   next-same : (m : ℕ) (prefix : List ℕ) → ruled (bookOf t′) (nextWalk t′ m prefix) ≡ ruled (bookOf t) (nextWalk t m prefix)
   next-same m prefix =

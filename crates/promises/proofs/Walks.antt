@@ -19,7 +19,7 @@ use Rattle.model.specs.Run.{rule, outcome, ruled, run}
 use Rattle.model.proofs.Refusals.{lowest-given}
 use Rattle.rows.specs.Table.{Table}
 use Rattle.rows.specs.Rules.{sound}
-use Rattle.minimal.proofs.Theorems.{sound-ask, sound-next}
+use Rattle.minimal.proofs.Theorems.{sound-ask, sound-far, sound-next}
 use Rattle.promises.specs.Books.{bookOf}
 use Rattle.promises.specs.Walks.{askWalk, nextWalk}
 use Rattle.promises.specs.Promises.{outcomeOf}
@@ -49,7 +49,8 @@ module _ (t : Table) (m : ℕ) (bytes : List ℕ) where
       (λ none.
       let mission = mission-below b call m (there (here refl)) none in
       let name = not-false (isName bytes) (none-applies b call (noName bytes) (there (there (here refl))) none) in
-      rw (sound-ask t e m mission (wordOf bytes) (name-parts bytes name .2)))
+      let spelled = name-parts bytes name .2 in
+      rw (sound-ask t e m mission (wordOf bytes) spelled, sound-far t e m mission (wordOf bytes) spelled))
 
   pub next-run : sound t ≡ true → ruled b (nextWalk t m bytes) ≡ run (bookOf t) (next m bytes)
   unfolding run

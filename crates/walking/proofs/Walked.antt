@@ -1,7 +1,8 @@
 -- The steps of a walk over bytes, as the loop takes them: with no bytes left it ends where it is; a byte that is no letter ends it; else the
 -- target of the first letter goes on with the rest, or, if it is no row, the walk stops there, and what it has not looked at decides whether all
 -- were letters. Assumes nothing.
-use Prim.Native.Nat.{ℕ, _<_}
+use Prim.Native.Nat.{ℕ, _≤_, _<_}
+use native.Mathlib.Omega.{arith}
 use mathlib.Core.Path.{_≡_, sym, ap}
 use mathlib.Core.Bool.{Bool, true, false, cond, false≢true}
 use mathlib.Core.List.{List, []}
@@ -15,7 +16,7 @@ use Rattle.letters.proofs.Words.{word-rest, spelled-step}
 use Rattle.sets.proofs.Membership.{fails}
 use Rattle.rows.specs.Table.{Table, isRow, target}
 use Rattle.rows.specs.Walk.{walkFrom}
-use Rattle.rows.proofs.Walk.{walk-none, walk-empty, walk-on, walk-stops}
+use Rattle.rows.proofs.Walk.{walk-none, walk-empty, walk-on, walk-stops, left-few}
 use Rattle.walking.specs.declared.walk.Walked.{Walked}
 use Rattle.walking.specs.declared.walk.Walked.the-variants.{Ended, NoLetter}
 use Rattle.walking.specs.Walked.{ended, walked}
@@ -58,6 +59,7 @@ pub record Ends (t : Table) (bytes : List ℕ) (n row left : ℕ) : Type 0 where
   pub spelled : spelled bytes ≡ true
   pub at : row ≡ walkFrom t (wordOf bytes) n .row
   pub over : left ≡ length (walkFrom t (wordOf bytes) n .left)
+  pub few : left ≤ length bytes
 
 module _ (t : Table) (bytes : List ℕ) (n : ℕ) where
   pub walked-ends : (row left : ℕ) → walked t bytes n ≡ Ended row left → Ends t bytes n row left
@@ -65,7 +67,8 @@ module _ (t : Table) (bytes : List ℕ) (n : ℕ) where
       by-test (spelled bytes)
       (λ fine.
       let same : ended (walkFrom t (wordOf bytes) n) ≡ Ended row left = rw fine at e in
-      record { spelled = fine; at = cc same; over = cc same })
+      let over : left ≡ length (walkFrom t (wordOf bytes) n .left) = cc same in
+      record { spelled = fine; at = cc same; over = over; few = omega (arith, over, left-few t (wordOf bytes) n, length-map bytes letter) })
       (λ bad. let same : NoLetter ≡ Ended row left = rw bad at e in absurd (false≢true (ap hasEnded same)))
 
   pub walked-none : walked t bytes n ≡ NoLetter → spelled bytes ≡ false

@@ -7,6 +7,9 @@ use Rattle.answers.proofs.replies.next_reply.Tie as tie
 enum-known-a : tie.Need-enum-known-a
 enum-known-a c = search needs
 
+done-requires : tie.Need-done-requires
+done-requires c κs = search needs
+
 enum-known-a-2 : tie.Need-enum-known-a-2
 enum-known-a-2 c = search needs
 
@@ -14,10 +17,10 @@ refused-requires : tie.Need-refused-requires
 refused-requires c κs = search needs
 
 returns : tie.Need-returns
-returns c = rw (c .before .a .given .1)
+returns c = c .done .ensures ∙ rw (c .before .before .a .given .1)
 
 returns-2 : tie.Need-returns-2
 returns-2 c = c .refused .ensures ∙ rw (c .before .before .a2 .given .1)
 
 pub next-reply-spec : {M : Type 1} → statement M
-next-reply-spec = tie.close (tie.spec enum-known-a enum-known-a-2 refused-requires returns returns-2)
+next-reply-spec = tie.close (tie.spec enum-known-a done-requires enum-known-a-2 refused-requires returns returns-2)
