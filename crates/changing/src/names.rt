@@ -11,8 +11,7 @@ use letters::is_name;
 use naming::path;
 use rows::start;
 use settling::settle;
-use walking::ends;
-use walking::walk_list;
+use walking::has_name;
 ghost use mathlib.Core.Path.{_≡_};
 ghost use mathlib.Core.Bool.{not};
 ghost use mathlib.Core.List.{[]};
@@ -44,8 +43,7 @@ fn set_name(t: &mut [u16], index: &mut [u16], m: usize, name: &[u8], on: bool) -
     requires { ⌜ Settable (now t) m (now name) × Indexed (now t) (now index) ⌝ }
     ensures { λ a. ⌜ Changes (now (t .entry)) (now (t .exit)) (setCall on m (now (name .entry))) (answerReply a) ⌝ }
 {
-    let r = walk_list(t, m, name);
-    if ends(t, r) == on {
+    if has_name(t, m, name) == on {
         return Answer::Done(0);
     }
     change_name(t, index, m, name, on)

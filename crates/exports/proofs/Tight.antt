@@ -9,13 +9,14 @@ use Rattle.rows.specs.Table.{Table}
 use Rattle.answers.specs.declared.replies.Reply.{Reply}
 use Rattle.promises.specs.Promises.{Promised, Tight}
 use Rattle.promises.proofs.Tight.{promised-tight}
-use Rattle.exports.specs.Packed.{radix, packed, unpacked, unpackedNext}
+use Rattle.exports.specs.Packed.{radix, packed, unpackedWith, unpackedNext}
 
 -- what was packed is taken apart again
-pub packed-apart : (number value : ℕ) → value < radix → unpacked (packed number value) ≡ record { number = number; value = value; second = 0 }
-unfolding unpacked
-packed-apart number value small =
-    ap₂ (λ (n : ℕ) (v : ℕ). record { number = n; value = v; second = 0 }) (omega arith) (omega arith)
+pub packed-apart : (second number value : ℕ) → value < radix
+    → unpackedWith second (packed number value) ≡ record { number = number; value = value; second = second }
+unfolding unpackedWith
+packed-apart second number value small =
+    ap₂ (λ (n : ℕ) (v : ℕ). record { number = n; value = v; second = second }) (omega arith) (omega arith)
 
 pub packed-apart-next : (letters number count : ℕ) → count < radix
     → unpackedNext letters (packed number count) ≡ record { number = number; value = letters; second = count }
@@ -23,15 +24,15 @@ unfolding unpackedNext
 packed-apart-next letters number count small =
     ap₂ (λ (n : ℕ) (c : ℕ). record { number = n; value = letters; second = c }) (omega arith) (omega arith)
 
--- Two outcomes of a function of include/book.h other than next.
-pub packs-tight : (t u v : Table) (before x y : List ℕ) (call : Call) (r s : ℕ) → Promised t u before x call (unpacked r)
-    → Promised t v before y call (unpacked s) → (r ≡ s) × Tight t u v before x y call (unpacked r) (unpacked s)
-unfolding unpacked
-packs-tight t u v before x y call r s p q =
-    let tight = promised-tight t u v before x y call (unpacked r) (unpacked s) p q in
+-- Two outcomes of a function of include/book.h other than next: what is returned, and the second value, which is put by ask alone.
+pub packs-tight : (t u v : Table) (before x y : List ℕ) (call : Call) (k l r s : ℕ) → Promised t u before x call (unpackedWith k r)
+    → Promised t v before y call (unpackedWith l s) → (r ≡ s) × (k ≡ l) × Tight t u v before x y call (unpackedWith k r) (unpackedWith l s)
+unfolding unpackedWith
+packs-tight t u v before x y call k l r s p q =
+    let tight = promised-tight t u v before x y call (unpackedWith k r) (unpackedWith l s) p q in
     let number = ap (λ (z : Reply). z .number) (tight .same .replies) in
     let value = ap (λ (z : Reply). z .value) (tight .same .replies) in
-    (omega (arith, number, value), tight)
+    (omega (arith, number, value), ap (λ (z : Reply). z .second) (tight .same .replies), tight)
 
 -- Two outcomes of next: what is returned, and the letters.
 pub packs-next-tight : (t u v : Table) (before x y : List ℕ) (call : Call) (k l r s : ℕ) → Promised t u before x call (unpackedNext k r)

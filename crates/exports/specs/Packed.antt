@@ -10,9 +10,13 @@ radix = 4294967296
 abbrev pub packed : ℕ → ℕ → ℕ
 packed number value = number * radix + value
 
--- BOOK_NUMBER and BOOK_VALUE of include/book.h: what a host takes from it is the reply
-unfoldable pub unpacked : ℕ → Reply
-unpacked r = record { number = r / radix; value = r % radix; second = 0 }
+-- BOOK_NUMBER and BOOK_VALUE of include/book.h: what a host takes from it is the reply, with a second value that is put by itself
+unfoldable pub unpackedWith : ℕ → ℕ → Reply
+unpackedWith second r = record { number = r / radix; value = r % radix; second = second }
+
+-- without one
+abbrev pub unpacked : ℕ → Reply
+unpacked r = unpackedWith 0 r
 
 -- next: what is returned is the number and how many letters may follow; the letters are put by themselves
 unfoldable pub unpackedNext : ℕ → ℕ → Reply

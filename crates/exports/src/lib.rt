@@ -1,16 +1,16 @@
 // The C boundary, for script hosts, tests and benchmarks: the calls under the names of include/book.h. Each does
 // one call and packs its reply into one number, from which a host takes it again.
 use answers::Answer;
-use answers::Asked;
+use answers::ask_reply;
 use answers::next_reply;
 use answers::refusal_number;
 ghost use mathlib.Core.Path.{_≡_};
 ghost use mathlib.Core.List.{[]};
 ghost use lib.ListN.{length};
-ghost use Rattle.answers.specs.Replies.{answerReply, askReply};
+ghost use Rattle.answers.specs.Replies.{answerReply};
 ghost use Rattle.model.specs.Call.Call.{empty, check, ask, next, add, remove, clear, load, combine, count, rank, nth, used};
 ghost use Rattle.promises.specs.Promises.{Promised};
-ghost use Rattle.exports.specs.Packed.{packed, unpacked, unpackedNext};
+ghost use Rattle.exports.specs.Packed.{packed, unpackedWith, unpacked, unpackedNext};
 
 // 2 to the power 32.
 const RADIX: u64 = 4294967296;
@@ -31,16 +31,6 @@ fn packed_answer(a: Answer) -> u64
     }
 }
 
-fn packed_ask(a: Asked) -> u64
-    ensures { λ r. ⌜ unpacked r ≡ askReply a ⌝ }
-{
-    match a {
-        Asked::OnList => packed(0, 1),
-        Asked::NotOnList => packed(0, 0),
-        Asked::Refused(r) => packed(refusal_number(r), 0),
-    }
-}
-
 #[no_mangle]
 pub extern "C" fn book_empty(table: &mut [u16]) -> u64
     ensures { λ r. ⌜ Promised (now (table .entry)) (now (table .exit)) [] [] empty (unpacked r) ⌝ }
@@ -55,11 +45,14 @@ pub extern "C" fn book_check(table: &[u16]) -> u64
     packed_answer(calls::check(table))
 }
 
+// "ask shall also report the arcs it followed": they go to a number of the caller's.
 #[no_mangle]
-pub extern "C" fn book_ask(table: &[u16], mission: u32, name: &[u8]) -> u64
-    ensures { λ r. ⌜ Promised (now (table .entry)) (now (table .entry)) [] [] (ask mission (now (name .entry))) (unpacked r) ⌝ }
+pub extern "C" fn book_ask(table: &[u16], mission: u32, name: &[u8], followed: &mut u32) -> u64
+    ensures { λ r. ⌜ Promised (now (table .entry)) (now (table .entry)) [] [] (ask mission (now (name .entry))) (unpackedWith (now (followed .exit)) r) ⌝ }
 {
-    packed_ask(calls::ask(table, mission, name))
+    let reply = ask_reply(calls::ask(table, mission, name));
+    *followed = reply.second;
+    packed(reply.number, reply.value as u32)
 }
 
 // "The number of letters that may follow is also answered": here it is the value, and the letters go

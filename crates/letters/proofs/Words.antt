@@ -63,6 +63,10 @@ name-parts bytes e =
     let long = long-parts bytes (parts .0) in
     (long .0, long .1, spelled-word bytes (parts .1))
 
+pub name-spelled : (bytes : List ℕ) → isName bytes ≡ true → spelled bytes ≡ true
+unfolding isName
+name-spelled bytes e = and-eq-true-iff (longAsName bytes) (spelled bytes) .0 e .1
+
 pub name-bytes : (w : Word) → 0 < length w → length w ≤ longest → Spelled w → isName (bytesOf w) ≡ true
 unfolding isName
 name-bytes w some few s = simp (length-map, le-leb _ _ some, le-leb _ _ few, spelled-bytes w s)

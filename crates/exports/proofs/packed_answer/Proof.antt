@@ -21,12 +21,12 @@ packed-requires-2 : tie.Need-packed-requires-2
 packed-requires-2 c κs = search needs
 
 returns : tie.Need-returns
-returns c = let e = c .before .before .a .given in rw (e .1, c .packed .ensures) (packed-apart 0 _ (omega arith))
+returns c = let e = c .before .before .a .given in rw (e .1, c .packed .ensures) (packed-apart 0 0 _ (omega arith))
 
 returns-2 : tie.Need-returns-2
 returns-2 c =
     let e = c .before .before .before .a2 .given in
-    rw (e .1, c .packed2 .ensures, c .before .refusal-number .ensures) (packed-apart _ 0 (omega arith))
+    rw (e .1, c .packed2 .ensures, c .before .refusal-number .ensures) (packed-apart 0 _ 0 (omega arith))
 
 pub packed-answer-spec : {M : Type 1} → statement M
 packed-answer-spec =

@@ -1,13 +1,11 @@
 -- `set_name` meets its promise: the walk says whether the name is on the list; if that is as wanted nothing changes, and else the name is
 -- changed. Assumes nothing.
-use Prim.Native.Nat.{ℕ}
-use mathlib.Core.Path.{_≡_, sym, ap, _∙_}
+use mathlib.Core.Path.{_≡_, sym, _∙_}
 use borrow.Author.Needs.{needs}
 use Rattle.letters.specs.Words.{wordOf}
-use Rattle.letters.proofs.Words.{name-parts}
+use Rattle.letters.proofs.Words.{name-parts, name-spelled}
 use Rattle.sets.specs.Sets.{member}
 use Rattle.model.specs.Lists.{listOf}
-use Rattle.rows.specs.Table.{ends}
 use Rattle.rows.specs.Words.{lists}
 use Rattle.rows.proofs.Rules.{sound-length, start-inside}
 use Rattle.minimal.proofs.Theorems.{sound-ask}
@@ -15,31 +13,26 @@ use Rattle.changing.proofs.Outcomes.{beq-same, beq-other, set-same}
 use Rattle.changing.proofs.names.set_name.Statement.{statement}
 use Rattle.changing.proofs.names.set_name.Tie as tie
 
-abbrev begin : tie.After-ends → tie.Start
-begin c = c .before .before .before .before .before .before .before
+abbrev begin : tie.After-has-name → tie.Start
+begin c = c .before .before .before .before .before
 
-walk-list-requires : tie.Need-walk-list-requires
-walk-list-requires c κs =
+has-name-requires : tie.Need-has-name-requires
+has-name-requires c κs =
     let (given, _) = c .before .before .before .before .pre in
-    let (_, _, spelled) = name-parts _ (given .named) in
-    (start-inside _ (sound-length _ (given .sound)) _ (given .mission), spelled)
-
-ends-requires : tie.Need-ends-requires
-ends-requires c κs = search needs
+    (start-inside _ (sound-length _ (given .sound)) _ (given .mission), name-spelled _ (given .named))
 
 same-length : tie.Need-same-length
 same-length c = search needs
 
 -- the walk says whether the name is on the list
-on-list : (c : tie.After-ends) →
+on-list : (c : tie.After-has-name) →
     let first = begin c in
-    c .ends .result ≡ member (wordOf (first .args .name .now)) (listOf (lists (first .args .t .now)) (first .args .m))
+    c .has-name .result ≡ member (wordOf (first .args .name .now)) (listOf (lists (first .args .t .now)) (first .args .m))
 on-list c =
     let first = begin c in
     let (given, _) = first .pre in
     let (_, _, spelled) = name-parts _ (given .named) in
-    c .ends .ensures ∙ ap (λ (n : ℕ). ends (first .args .t .now) n) (c .before .before .walk-list .ensures)
-    ∙ sound-ask (first .args .t .now) (given .sound) (first .args .m) (given .mission) _ spelled
+    c .has-name .ensures ∙ sound-ask (first .args .t .now) (given .sound) (first .args .m) (given .mission) _ spelled
 
 returns : tie.Need-returns
 returns c =
@@ -65,4 +58,4 @@ returns-2 c = c .before .before .before .before .change-name .ensures
 pub set-name-spec : {M : Type 1} → statement M
 set-name-spec =
     tie.close
-    (tie.spec walk-list-requires ends-requires same-length returns change-name-requires same-length-2 same-length-3 returns-2)
+    (tie.spec has-name-requires same-length returns change-name-requires same-length-2 same-length-3 returns-2)
