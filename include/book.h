@@ -12,18 +12,18 @@
  * book, and never reads or writes outside the table.
  *
  * Who owns what. All memory is the host's. A call writes to the table only where its parameter is not
- * const, to the answer buffer and to *letters, and keeps no pointer. A pointer must not be null, also
- * where its length is 0, must be aligned for its type, and `length` numbers or bytes behind it must be
- * the host's. While a call runs nothing else may write what it was lent, and what it writes (a table
- * that is not const, a buffer, *letters) must not overlap anything else that it was lent. Two threads
- * may read one table at the same time.
+ * const, to the answer buffer, to *followed and to *letters, and keeps no pointer. A pointer must not be
+ * null, also where its length is 0, must be aligned for its type, and `length` numbers or bytes behind it
+ * must be the host's. While a call runs nothing else may write what it was lent, and what it writes (a
+ * table that is not const, a buffer, *followed, *letters) must not overlap anything else that it was
+ * lent. Two threads may read one table at the same time.
  *
  * Names are bytes, without an end: `0` to `9`, `A` to `Z` and `_`, in this order, 1 to 24 of them. Any
  * bytes may be given; what is no name is refused. Missions are 0 to 15.
  *
  * The answer is number * 2^32 + value; BOOK_NUMBER and BOOK_VALUE take it apart. Number 0 is done. Any
- * other number is a refusal: the value is 0, and the table and the answer buffer are as they were.
- * Of the refusals that apply, the lowest is given:
+ * other number is a refusal: the value is 0, *followed or *letters becomes 0, and the table and the
+ * answer buffer are as they were. Of the refusals that apply, the lowest is given:
  *
  *    1  the length is not BOOK_LENGTH(r) for a room r from 1 to 1,000         all
  *    2  a mission number over 15                                              all with one
@@ -87,9 +87,11 @@ uint64_t book_empty(uint16_t *table, size_t length);
 /* Is it a sound book? Number 0 if it is. Value 0. */
 uint64_t book_check(const uint16_t *table, size_t length);
 
-/* Is the name on the mission's list? Value 1 or 0. On any numbers: where the table is not sound, what
-   the walk over its numbers finds. */
-uint64_t book_ask(const uint16_t *table, size_t length, uint32_t mission, const uint8_t *name, size_t name_length);
+/* Is the name on the mission's list? Value 1 or 0. *followed is how far the name got: the length of its
+   longest prefix that some name on the list begins with, 0 for an empty list. On a refusal it is 0. On
+   any numbers: where the table is not sound, what the walk over its numbers finds, and *followed is the
+   number of letters whose target is a row. */
+uint64_t book_ask(const uint16_t *table, size_t length, uint32_t mission, const uint8_t *name, size_t name_length, uint32_t *followed);
 
 /* Which letters may follow the prefix on the mission's list? The value is how many they are; *letters
    is their set: bit x for letter x, digits from 0, capitals from 10, `_` 36. On a refusal it is 0. The

@@ -64,6 +64,7 @@ std::string figure(double number) {
 struct Library { EACH_CALL(POINTER) };
 constexpr Library now = {EACH_CALL(NOW)};
 #ifdef BEFORE // an earlier state of it, whose names the script has changed
+// Where a call has got a last parameter since then, the earlier one leaves a register of x86-64 unread.
 #define DECLARED(call) extern "C" decltype(book_##call) before_book_##call;
 #define EARLIER(call) before_book_##call,
 EACH_CALL(DECLARED)
@@ -78,7 +79,10 @@ template <const Library &library> class BookBy {
     uint64_t empty() { return value(library.empty, table); }
     uint64_t check() const { return value(library.check, table); }
     uint64_t used() const { return value(library.used, table); }
-    uint64_t ask(unsigned m, const Name &name) const { return value(library.ask, table, m, bytes(name), name.size()); }
+    uint64_t ask(unsigned m, const Name &name) const {
+        uint32_t followed = 0;
+        return value(library.ask, table, m, bytes(name), name.size(), &followed);
+    }
     uint64_t next(unsigned m, const Name &prefix) const {
         uint64_t letters = 0;
         value(library.next, table, m, bytes(prefix), prefix.size(), &letters);

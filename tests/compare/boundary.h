@@ -45,7 +45,7 @@ Lent<uint16_t> lent_table(size_t length) {
 }
 
 uint64_t call_library(const Call& call, Lent<uint16_t>& table, const char* lent_bytes, char* lent_buffer,
-                      uint64_t* following) {
+                      uint32_t* followed, uint64_t* following) {
     const Clocked clocked;
     uint16_t* const first = table.data();
     const size_t length = table.size();
@@ -55,7 +55,7 @@ uint64_t call_library(const Call& call, Lent<uint16_t>& table, const char* lent_
     switch (call.kind) {
         case Kind::empty: return book_empty(first, length);
         case Kind::check: return book_check(first, length);
-        case Kind::ask: return book_ask(first, length, call.mission, bytes, bytes_length);
+        case Kind::ask: return book_ask(first, length, call.mission, bytes, bytes_length, followed);
         case Kind::next: return book_next(first, length, call.mission, bytes, bytes_length, following);
         case Kind::add: return book_add(first, length, call.mission, bytes, bytes_length);
         case Kind::remove: return book_remove(first, length, call.mission, bytes, bytes_length);
@@ -71,20 +71,23 @@ uint64_t call_library(const Call& call, Lent<uint16_t>& table, const char* lent_
 
 struct Made {
     Answer answer;
-    bool stayed_inside;  // wrote nothing but the table, the buffer and the letters
+    bool stayed_inside;  // wrote nothing but the table, the buffer, the arcs followed and the letters
 };
 
 Made made_by_library(const Call& call, Lent<uint16_t>& table) {
     Lent<char> bytes(call.bytes.size(), 0, call.kind == Kind::load ? '\n' : 'A');
     Lent<char> buffer(call.buffer_length, untouched, untouched);
+    Lent<uint32_t> followed(1, ~uint32_t{0}, ~uint32_t{0});
     Lent<uint64_t> following(1, ~uint64_t{0}, ~uint64_t{0});
     std::copy(call.bytes.begin(), call.bytes.end(), bytes.data());
-    const uint64_t both = call_library(call, table, bytes.data(), buffer.data(), following.data());
+    const uint64_t both = call_library(call, table, bytes.data(), buffer.data(), followed.data(), following.data());
     Answer answer{BOOK_NUMBER(both), BOOK_VALUE(both)};
+    if (call.kind == Kind::ask) answer.followed = *followed.data();
     if (call.kind == Kind::next) answer.letters = *following.data();
     answer.buffer.assign(buffer.data(), buffer.size());
     return {answer, table.outside_stays() && bytes.outside_stays() && buffer.outside_stays() &&
-                        following.outside_stays() && std::equal(call.bytes.begin(), call.bytes.end(), bytes.data())};
+                        followed.outside_stays() && following.outside_stays() &&
+                        std::equal(call.bytes.begin(), call.bytes.end(), bytes.data())};
 }
 
 }  // namespace

@@ -34,6 +34,7 @@ bool is_call(Kind kind) {
 struct Answer {
     uint32_t number = 0;
     uint32_t value = 0;
+    uint32_t followed = 0;
     uint64_t letters = 0;
     std::string buffer = {};  // all of it, with the bytes behind the name
 };
@@ -192,11 +193,17 @@ size_t value_when_done(const Call& call, const Lists& lists) {
     }
 }
 
+// "ask and next work on any numbers."
+bool works_on_any_numbers(Kind kind) {
+    return kind == Kind::ask || kind == Kind::next;
+}
+
 // ask and next by the walk: right on any numbers, on a sound book too.
 Answer walked_answer(const Call& call, const Table& table) {
     Answer answer;
     if (call.kind == Kind::ask) {
         answer.value = table.accepts(call.mission, call.bytes);
+        answer.followed = static_cast<uint32_t>(table.followed(call.mission, call.bytes));
     } else if (const size_t row = table.walk(call.mission, call.bytes); row != 0) {
         answer.letters = table.letters_at(row);
         answer.value = number_of_letters(answer.letters);
@@ -221,7 +228,7 @@ std::optional<size_t> value_by_table(const Call& call, const Known& known, const
 // Where the sets cannot hold the lists, and none of refusals 1 to 10 applies: the table says what it can, the stored
 // answer the rest. A call that changes nothing is not refused by 11.
 Answer answer_by_table(const Call& call, const Known& known, const Table& table) {
-    if (call.kind == Kind::ask || call.kind == Kind::next) return walked_answer(call, table);
+    if (works_on_any_numbers(call.kind)) return walked_answer(call, table);
     const std::optional<size_t> value = value_by_table(call, known, table);
     Answer answer = *call.stored;
     if (answer.number == 11 && may_be_refused_by(11, call.kind) && value != size_t{0}) return answer;
@@ -239,6 +246,7 @@ Answer expected_answer(const Call& call, Known& known, const Table& table) {
     if (known.sizes) return answer_by_table(call, known, table);
     const Names& names = known.lists[mission_of(call)];
     answer.value = static_cast<uint32_t>(value_when_done(call, known.lists));
+    if (call.kind == Kind::ask) answer.followed = static_cast<uint32_t>(longest_prefix(names, call.bytes));
     if (call.kind == Kind::next) answer.letters = letters_after(names, call.bytes);
     if (call.kind == Kind::nth) answer.buffer.replace(0, answer.value, *std::next(names.begin(), call.n));
     return answer;

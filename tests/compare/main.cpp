@@ -10,8 +10,9 @@
 // JOURNAL is a file: a script with the calls of the sequence that runs, each written before it is made. The exit status
 // is 3 when the library crashed or did not answer.
 //
-// "01" is the paper with the exact rules; the sentences in quotes are its own. The library is known here by book.h
-// alone: the sets, the count of the fewest states and the reader of the table are this program's own.
+// "01" is the paper with the exact rules, "02" the one with later wishes; the sentences in quotes are theirs. The
+// library is known here by book.h alone: the sets, the count of the fewest states and the reader of the table are this
+// program's own.
 //
 // To be read in this order: names, sets, table, calls (what is expected); boundary, trial (what is made and compared);
 // writing, reading, scripts; journal; random, damage, sequences, shorten; desk.

@@ -151,6 +151,7 @@ Answer taken_answer(const Call& call, Words& words) {
     answer.number = static_cast<uint32_t>(words.take_number(0, last_refusal));
     if (call.kind == Kind::next) answer.letters = words.take_number(0, (uint64_t{1} << letters.size()) - 1);
     words.take_into(answer.value);
+    if (call.kind == Kind::ask) words.take_into(answer.followed);
     answer.buffer.assign(call.buffer_length, untouched);
     if (call.kind == Kind::nth && answer.number == 0) {
         const std::string name = bytes_of(words.take("the name"));

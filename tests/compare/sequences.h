@@ -196,6 +196,7 @@ private:
         const auto has = [&](uint32_t number) { return may_be_refused_by(number, call.kind); };
         if (has(2)) call.mission = call.kind == Kind::load ? any_receiver() : any_mission();
         if (has(4)) call.bytes = call.kind == Kind::next ? any_prefix() : any_name(call.kind);
+        if (call.kind == Kind::ask && random.chance(40)) call.bytes = leaving_name(list(call.mission));
         if (call.kind == Kind::load) call.bytes = any_list();
         if (call.kind == Kind::combine) {
             call.b = any_mission();
@@ -251,6 +252,13 @@ private:
         if (drawn < (kind == Kind::add ? 15 : 50)) return listed_name();
         if (drawn < 70) return random.altered(listed_name(), own_letters);
         return own_word();
+    }
+
+    // A name of the list up to any of its letters, and then any letters: most leave the list there.
+    std::string leaving_name(const Names& names) {
+        const std::string name = names.empty() ? own_word() : random.one_of(names);
+        const size_t stays = random.between(1, name.size());
+        return name.substr(0, stays) + random.word(std::string(letters), random.below(longest_name + 1 - stays));
     }
 
     std::string any_prefix() {

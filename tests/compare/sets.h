@@ -31,6 +31,16 @@ Names combined(uint32_t operation, const Names& a, const Names& b) {
     return result;
 }
 
+// "the length of the longest prefix of the given name that some name on the list begins with, and 0 for an empty list"
+size_t longest_prefix(const Names& names, const std::string& name) {
+    std::ptrdiff_t longest = 0;
+    for (const std::string& listed : names) {
+        const auto differ = std::mismatch(name.begin(), name.end(), listed.begin(), listed.end()).first;
+        longest = std::max(longest, differ - name.begin());
+    }
+    return static_cast<size_t>(longest);
+}
+
 // "next answers the sum of 2 to the power x over the letters x that may follow."
 uint64_t letters_after(const Names& names, const std::string& prefix) {
     uint64_t sum = 0;

@@ -110,6 +110,13 @@ public:
         return row != 0 && mark(row) == 2;
     }
 
+    // "the number of letters in 01's walk whose target is a row"
+    size_t followed(uint32_t mission, std::string_view word) const {
+        size_t walked = 0;
+        while (walked < word.size() && walk(mission, word.substr(0, walked + 1)) != 0) ++walked;
+        return walked;
+    }
+
     // "next reports each letter whose target is a row."
     uint64_t letters_at(size_t row) const {
         uint64_t sum = 0;

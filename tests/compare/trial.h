@@ -110,9 +110,14 @@ private:
 
     std::string difference(const Call& call, const Answer& expected, const Numbers& before) const {
         const Answer& answer = made.answer;
-        const auto told = [](const Answer& a) { return std::tie(a.number, a.value, a.letters); };
+        const auto told = [](const Answer& a) { return std::tie(a.number, a.value, a.followed, a.letters); };
         const std::string by = known.sizes ? ", by the table and what is stored " : ", by the sets ";
         if (told(answer) != told(expected)) return by + shown(expected, call.kind);
+        // "On a sound book these are the plain set answers": the walk finds them, too.
+        if (works_on_any_numbers(call.kind) && answer.number == 0) {
+            const Answer walked = walked_answer(call, table());
+            if (told(answer) != told(walked)) return ", by the walk " + shown(walked, call.kind);
+        }
         if (answer.buffer != expected.buffer) {
             return ", but the buffer is " + shown(answer.buffer) + by + shown(expected.buffer);
         }

@@ -45,11 +45,13 @@ std::string shown(const Call& call) {
     return line;
 }
 
-// What stands behind `->`: "`-> NUMBER VALUE`", next "`-> NUMBER LETTERS COUNT`", nth "and the name where it is done".
+// What stands behind `->`: "`-> NUMBER VALUE`", ask "`-> NUMBER VALUE FOLLOWED`", next "`-> NUMBER LETTERS COUNT`",
+// nth "and the name where it is done".
 std::string shown(const Answer& answer, Kind kind) {
     std::string text = std::to_string(answer.number);
     if (kind == Kind::next) text += ' ' + std::to_string(answer.letters);
     text += ' ' + std::to_string(answer.value);
+    if (kind == Kind::ask) text += ' ' + std::to_string(answer.followed);
     if (kind == Kind::nth && answer.number == 0) text += ' ' + shown(answer.buffer.substr(0, answer.value));
     return text;
 }
