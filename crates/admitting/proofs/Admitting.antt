@@ -21,7 +21,7 @@ use Rattle.answers.proofs.Again.{refusal-positive}
 use Rattle.promises.specs.Books.{bookOf}
 use Rattle.admitting.specs.declared.admits.Admission.{Admission}
 use Rattle.admitting.specs.declared.admits.Admission.the-variants.{Admitted, Refused}
-use Rattle.admitting.specs.Admission.{admissionNumber, ifFine, verdict, bookTests, walkTests, firstTests}
+use Rattle.admitting.specs.Admission.{admissionNumber, ifFine, verdict, bookTests, walkTests, argumentTests, firstTests}
 
 -- ---- arguments
 
@@ -45,12 +45,6 @@ verdict-given Admitted = refl
 verdict-given (Refused r) = refl
 
 -- a call's rule that has one test of the arguments begins with these tests
-pub walk-begins : (b : Book) (m : ℕ) (fine : Bool) (otherwise : Refusal)
-    → given (badLength b ∷ badMission m ∷ record { number = refusalNumber otherwise; applies = not fine } ∷ [])
-    ≡ given (walkTests b m (ifFine fine otherwise))
-walk-begins b m true otherwise = refl
-walk-begins b m false otherwise = refl
-
 pub first-begins : (b : Book) (m : ℕ) (fine : Bool) (otherwise : Refusal) (more : List Test)
     → given (badLength b ∷ badMission m ∷ record { number = refusalNumber otherwise; applies = not fine } ∷ notSound b ∷ more)
     ≡ given (firstTests b m (ifFine fine otherwise) ++ more)
@@ -65,11 +59,10 @@ pub record Admits (t : Table) (m : ℕ) (found : Admission) : Type 0 where
   pub arguments : found ≡ Admitted
   pub sound : sound t ≡ true
 
--- of those before 7
-pub record Walks (t : Table) (m : ℕ) (found : Admission) : Type 0 where
+-- of those of a walk
+pub record Walks (t : Table) (m : ℕ) : Type 0 where
   pub length : lengthOk t ≡ true
   pub mission : m < missions
-  pub arguments : found ≡ Admitted
 
 module _ (t : Table) {a : Admission} (told : a ≡ Admitted) where
   abbrev b : Book
@@ -80,17 +73,12 @@ module _ (t : Table) {a : Admission} (told : a ≡ Admitted) where
       let (_, (sound, _)) = given-none (bookTests b) ((λ _. omega arith), ((λ _. omega arith), tt)) (sym (rw told at e)) in
       not-false _ sound
 
-  module _ (m : ℕ) (found : Admission) where
-    pub walk-admitted : admissionNumber a ≡ given (walkTests b m found) → Walks t m found
-    walk-admitted e =
-        let (length, (mission, (fine, _))) =
-        given-none (walkTests b m found) ((λ _. omega arith), ((λ _. omega arith), (verdict-numbered found, tt))) (sym (rw told at e)) in
-        record {
-          length = not-false _ length;
-          mission = omega (arith, ltb-false lastMission m mission);
-          arguments = verdict-fine found fine;
-        }
+  pub walk-admitted : (m : ℕ) → admissionNumber a ≡ given (walkTests b m) → Walks t m
+  walk-admitted m e =
+      let (length, (mission, _)) = given-none (walkTests b m) ((λ _. omega arith), ((λ _. omega arith), tt)) (sym (rw told at e)) in
+      record { length = not-false _ length; mission = omega (arith, ltb-false lastMission m mission) }
 
+  module _ (m : ℕ) (found : Admission) where
     pub admitted : admissionNumber a ≡ given (firstTests b m found) → Admits t m found
     admitted e =
         let (length, (mission, (fine, (sound, _)))) =
@@ -104,26 +92,33 @@ module _ (t : Table) {a : Admission} (told : a ≡ Admitted) where
           sound = not-false _ sound;
         }
 
--- ---- 7 behind the others
+-- ---- the arguments behind the length and the mission, and 7 behind them
 
--- the tests before 7 pass, and 7 decides
-pub sound-next : (b : Book) (m : ℕ) (found : Admission) {a : Admission} → a ≡ Admitted → admissionNumber a ≡ given (walkTests b m found)
-    → admissionNumber (ifFine (b .sound) NotSound) ≡ given (firstTests b m found)
-sound-next b m found told e =
-    let (length, (mission, (fine, _))) =
-    given-none (walkTests b m found) ((λ _. omega arith), ((λ _. omega arith), (verdict-numbered found, tt))) (sym (rw told at e)) in
-    rw (length, mission, fine) (go (b .sound))
-  where
-    go : (sound : Bool) → admissionNumber (ifFine sound NotSound) ≡ given (record { number = 7; applies = not sound } ∷ [])
-    go true = refl
-    go false = refl
+module _ (b : Book) (m : ℕ) {a : Admission} where
+  pub arguments-next : (found : Admission) → a ≡ Admitted → admissionNumber a ≡ given (walkTests b m)
+      → admissionNumber found ≡ given (argumentTests b m found)
+  arguments-next found told e =
+      let (length, (mission, _)) = given-none (walkTests b m) ((λ _. omega arith), ((λ _. omega arith), tt)) (sym (rw told at e)) in
+      rw (length, mission) (verdict-given found)
 
--- or they refuse
-pub refused-next : (b : Book) (m : ℕ) (found : Admission) {a : Admission} {why : Refusal} → a ≡ Refused why
-    → admissionNumber a ≡ given (walkTests b m found) → refusalNumber why ≡ given (firstTests b m found)
-refused-next b m found {a} {why} told e =
-    let number : refusalNumber why ≡ given (walkTests b m found) = rw told at e in
-    number ∙ sym (given-first (walkTests b m found) (notSound b ∷ []) (omega (arith, refusal-positive why)))
+  -- the tests before 7 pass, and 7 decides
+  pub sound-next : (found : Admission) → a ≡ Admitted → admissionNumber a ≡ given (argumentTests b m found)
+      → admissionNumber (ifFine (b .sound) NotSound) ≡ given (firstTests b m found)
+  sound-next found told e =
+      let (length, (mission, (fine, _))) =
+      given-none (argumentTests b m found) ((λ _. omega arith), ((λ _. omega arith), (verdict-numbered found, tt))) (sym (rw told at e)) in
+      rw (length, mission, fine) (go (b .sound))
+    where
+      go : (sound : Bool) → admissionNumber (ifFine sound NotSound) ≡ given (record { number = 7; applies = not sound } ∷ [])
+      go true = refl
+      go false = refl
+
+-- or the tests before them refuse
+pub refused-next : (tests more : List Test) {a : Admission} {why : Refusal} → a ≡ Refused why → admissionNumber a ≡ given tests
+    → refusalNumber why ≡ given (tests ++ more)
+refused-next tests more {a} {why} told e =
+    let number : refusalNumber why ≡ given tests = rw told at e in
+    number ∙ sym (given-first tests more (omega (arith, refusal-positive why)))
 
 -- ---- the tests refuse
 

@@ -27,9 +27,13 @@ verdict (Refused r) = record { number = refusalNumber r; applies = true }
 abbrev pub bookTests : Book → List Test
 bookTests b = badLength b ∷ notSound b ∷ []
 
--- 1, 2, and a number from 3 to 6 where the other arguments are not fine: of a call that works "on any numbers"
-abbrev pub walkTests : Book → ℕ → Admission → List Test
-walkTests b m arguments = badLength b ∷ badMission m ∷ verdict arguments ∷ []
+-- 1 and 2: of a call on a mission's list that works "on any numbers"
+abbrev pub walkTests : Book → ℕ → List Test
+walkTests b m = badLength b ∷ badMission m ∷ []
+
+-- the same, and a number from 3 to 6 where the other arguments are not fine
+abbrev pub argumentTests : Book → ℕ → Admission → List Test
+argumentTests b m arguments = badLength b ∷ badMission m ∷ verdict arguments ∷ []
 
 -- the same, and 7
 abbrev pub firstTests : Book → ℕ → Admission → List Test

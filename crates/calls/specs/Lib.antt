@@ -1,2 +1,2 @@
--- What ask and next reply, once the bytes are as long as they may be. Assumes nothing.
-pub mod Spelled
+-- What ask and next reply to a word. Assumes nothing.
+pub mod Words

@@ -1,12 +1,11 @@
 // "next: which letters may follow a prefix on a mission's list?"
 use admitting::Admission;
 use admitting::admit_walk;
-use admitting::if_fine;
 use answers::Following;
 use answers::Refusal;
+use letters::is_spelled;
 use letters::letter_count;
 use letters::long_as_prefix;
-use walking::Walked;
 use walking::letter_set;
 use walking::walk_list;
 ghost use Prim.Native.Nat.{_<_};
@@ -14,6 +13,7 @@ ghost use mathlib.Core.Path.{_≡_};
 ghost use mathlib.Core.Bool.{true};
 ghost use mathlib.Core.List.{[]};
 ghost use Rattle.letters.specs.Letters.{letters};
+ghost use Rattle.letters.specs.Names.{isPrefix};
 ghost use Rattle.letters.specs.LetterSet.{sumOf, countOf};
 ghost use Rattle.model.specs.Lists.{missions};
 ghost use Rattle.model.specs.Call.Call.{next};
@@ -22,7 +22,7 @@ ghost use Rattle.rows.specs.Walk.{hasArc};
 ghost use Rattle.answers.specs.Replies.{doneBoth, nextReply};
 ghost use Rattle.promises.specs.Walks.{nextWalk};
 ghost use Rattle.promises.specs.Promises.{Promised};
-ghost use Rattle.calls.specs.Spelled.{spelledReply};
+ghost use Rattle.calls.specs.Words.{wordReply};
 
 // "next reports each letter whose target is a row."
 fn following(t: &[u16], row: usize) -> Following
@@ -35,21 +35,26 @@ fn following(t: &[u16], row: usize) -> Following
     }
 }
 
-// Bytes that are as long as a prefix: a byte that is no letter is found on the way.
+// 4, and the walk, as in ask.
 fn next_walk(t: &[u16], m: usize, prefix: &[u8]) -> Following
     requires { ⌜ (lengthOk (now t) ≡ true) × (m < missions) ⌝ }
-    ensures { λ a. ⌜ nextReply a ≡ spelledReply (now (prefix .entry)) (nextWalk (now (t .entry)) m (now (prefix .entry))) ⌝ }
+    ensures { λ a. ⌜ nextReply a ≡ wordReply (isPrefix (now (prefix .entry))) (nextWalk (now (t .entry)) m (now (prefix .entry))) ⌝ }
 {
-    match walk_list(t, m, prefix) {
-        Walked::Ended { row, left: _ } => following(t, row),
-        Walked::NoLetter => Following::Refused(Refusal::Name),
+    if !long_as_prefix(prefix) {
+        return Following::Refused(Refusal::Name);
     }
+    let way = walk_list(t, m, prefix);
+    let walked = prefix.len() - way.left;
+    if !is_spelled(&prefix[walked..]) {
+        return Following::Refused(Refusal::Name);
+    }
+    following(t, way.row)
 }
 
 pub fn next(t: &[u16], m: u32, prefix: &[u8]) -> Following
     ensures { λ a. ⌜ Promised (now (t .entry)) (now (t .entry)) [] [] (next m (now (prefix .entry))) (nextReply a) ⌝ }
 {
-    match admit_walk(t, m, if_fine(long_as_prefix(prefix), Refusal::Name)) {
+    match admit_walk(t, m) {
         Admission::Admitted => next_walk(t, m as usize, prefix),
         Admission::Refused(r) => Following::Refused(r),
     }

@@ -15,7 +15,7 @@ use Rattle.letters.specs.Words.{Word, wordOf, bytesOf, rest, Spelled}
 use Rattle.letters.specs.Names.{longest, spelled, isPrefix, longAsName, isName}
 use Rattle.letters.proofs.Laws.{letter-byteOf}
 
-all-left : (b : ℕ) (bytes : List ℕ) → rest (b ∷ bytes) ≡ bytes
+pub all-left : (b : ℕ) (bytes : List ℕ) → rest (b ∷ bytes) ≡ bytes
 all-left b bytes = take-all (length (b ∷ bytes) - 1) bytes (omega arith)
 
 -- the first letter of a word, and what is left of it

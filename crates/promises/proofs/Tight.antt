@@ -55,8 +55,11 @@ module _ (t t′ : Table) (by : Renumbered t t′) where
       let mission = mission-below (bookOf t) call m (there (here refl)) none in
       let named = not-false (isName name) (none-applies (bookOf t) call (noName name) (there (there (here refl))) none) in
       let spelled = name-parts name named .2 in
-      rw (renumbered-ask t t′ by m mission (wordOf name) spelled, renumbered-followed t t′ by m mission (wordOf name) spelled,
-      renumbered-lists t t′ by))
+      rw (
+        renumbered-ask t t′ by m mission (wordOf name) spelled,
+        renumbered-followed t t′ by m mission (wordOf name) spelled,
+        renumbered-lists t t′ by,
+      ))
 
   next-same : (m : ℕ) (prefix : List ℕ) → ruled (bookOf t′) (nextWalk t′ m prefix) ≡ ruled (bookOf t) (nextWalk t m prefix)
   next-same m prefix =

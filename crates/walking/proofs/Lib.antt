@@ -1,2 +1,2 @@
--- The steps of a walk, and what its end tells. Assumes nothing.
-pub mod Walked
+-- The steps of a walk over bytes, and what its end tells of their word. Assumes nothing.
+pub mod Ways

@@ -1,2 +1,2 @@
--- Where the walk of some bytes ends. Assumes nothing.
-pub mod Walked
+-- How far a walk over bytes gets. Assumes nothing.
+pub mod Ways

@@ -1,8 +1,8 @@
-// Walking: where a word leads and how many of its letters are left there, whether a name may end there, and which
-// letters go on from there. All of it on any numbers and any bytes, as 01 asks of ask and next.
+// Walking: how far a word leads and how much of it is left there, whether a name may end there, and which letters go
+// on from there. All of it on any numbers, as 01 asks of ask and next.
 mod walk;
 
-pub use walk::Walked;
+pub use walk::Way;
 pub use walk::ends;
 pub use walk::has_name;
 pub use walk::letter_set;

@@ -1,6 +1,5 @@
 // The walk of a word, and the arcs of a row.
 use letters::LETTERS;
-use letters::is_spelled;
 use letters::letter_of;
 use letters::with_letter;
 use rows::is_row;
@@ -9,7 +8,7 @@ use rows::start;
 use rows::target;
 ghost use Prim.Native.Nat.{_+_, _*_, _^_, _<_};
 ghost use mathlib.Core.Path.{_≡_};
-ghost use mathlib.Core.Bool.{true, cond};
+ghost use mathlib.Core.Bool.{true};
 ghost use lib.ListN.{length};
 ghost use Rattle.letters.specs.Letters.{letters};
 ghost use Rattle.letters.specs.Words.{wordOf};
@@ -17,56 +16,53 @@ ghost use Rattle.letters.specs.Names.{spelled};
 ghost use Rattle.letters.specs.LetterSet.{flag, sumOf};
 ghost use Rattle.rows.specs.Table.{isRow, start, ends};
 ghost use Rattle.rows.specs.Walk.{accepts, hasArc};
-ghost use Rattle.walking.specs.Walked.{walked};
+ghost use Rattle.walking.specs.Ways.{leadsTo, way, wayFrom};
 
-// Where the walk of some bytes ends: on a row, or on none (0), with how many letters left. Or one of them is no letter.
-pub enum Walked {
-    Ended { row: usize, left: usize },
-    NoLetter,
+// How far the walk of some bytes gets: the row where it ends, or 0 where it stops, and how many bytes are left there.
+pub struct Way {
+    pub row: usize,
+    pub left: usize,
 }
 
-// The walk ends on no row, with so many letters left. Those that it has not looked at must be letters too.
-fn stopped(unseen: &[u8], left: usize) -> Walked
-    ensures { λ w. ⌜ w ≡ cond (spelled (now (unseen .entry))) (Walked.Ended 0 left) Walked.NoLetter ⌝ }
+// Where a byte leads from a row: its letter's target, and 0 for a byte that is no letter.
+fn leads_to(t: &[u16], row: usize, b: u8) -> usize
+    requires { ⌜ isRow (now t) row ≡ true ⌝ }
+    ensures { λ n. ⌜ n ≡ leadsTo (now (t .entry)) row b ⌝ }
 {
-    if is_spelled(unseen) {
-        Walked::Ended { row: 0, left }
-    } else {
-        Walked::NoLetter
+    let x = letter_of(b);
+    if x == LETTERS {
+        return 0;
     }
+    target(t, row, x) as usize
 }
 
 // The walk from a row. "Each step goes on with what is left of the word after the letters walked." A loop and no
-// recursion: the compiler keeps it in registers.
-fn walk_from(t: &[u16], first: usize, word: &[u8]) -> Walked
+// recursion: so the compiler keeps all of it in registers.
+fn walk_from(t: &[u16], first: usize, word: &[u8]) -> Way
     requires { ⌜ isRow (now t) first ≡ true ⌝ }
-    ensures { λ w. ⌜ w ≡ walked (now (t .entry)) (now (word .entry)) first ⌝ }
+    ensures { λ w. ⌜ w ≡ way (now (t .entry)) (now (word .entry)) first ⌝ }
 {
     let mut row = first;
     let mut left = word;
     while left.len() != 0 {
-        let x = letter_of(left[0]);
-        if x == LETTERS {
-            return Walked::NoLetter;
-        }
-        let next = target(t, row, x) as usize;
+        let next = leads_to(t, row, left[0]);
         if !is_row(t, next) {
-            return stopped(&left[1..], left.len());
+            return Way { row: 0, left: left.len() };
         }
         row = next;
         left = &left[1..];
     }
-    Walked::Ended { row, left: 0 }
+    Way { row, left: 0 }
 }
 
 // The walk from a mission's start.
-pub fn walk_list(t: &[u16], m: usize, word: &[u8]) -> Walked
+pub fn walk_list(t: &[u16], m: usize, word: &[u8]) -> Way
     requires { ⌜ m < length (now t) ⌝ }
-    ensures { λ w. ⌜ w ≡ walked (now (t .entry)) (now (word .entry)) (start (now (t .entry)) m) ⌝ }
+    ensures { λ w. ⌜ w ≡ wayFrom (now (t .entry)) (now (word .entry)) (start (now (t .entry)) m) ⌝ }
 {
     let first = start(t, m) as usize;
     if !is_row(t, first) {
-        return stopped(word, word.len());
+        return Way { row: 0, left: word.len() };
     }
     walk_from(t, first, word)
 }
@@ -86,10 +82,8 @@ pub fn has_name(t: &[u16], m: usize, name: &[u8]) -> bool
     requires { ⌜ (m < length (now t)) × (spelled (now name) ≡ true) ⌝ }
     ensures { λ r. ⌜ r ≡ accepts (now (t .entry)) (wordOf (now (name .entry))) (start (now (t .entry)) m) ⌝ }
 {
-    match walk_list(t, m, name) {
-        Walked::Ended { row, left: _ } => ends(t, row),
-        Walked::NoLetter => false,
-    }
+    let way = walk_list(t, m, name);
+    ends(t, way.row)
 }
 
 // The set of lower letters, with letter x where its target is a row.

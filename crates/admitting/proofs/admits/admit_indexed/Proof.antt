@@ -1,15 +1,18 @@
 -- `admit_indexed` meets its promise: the tests before 7 refuse the call, or they pass and 7 decides; and where it passes, the index of the book is
 -- built. Assumes nothing.
 use mathlib.Core.Path.{sym, _∙_}
+use mathlib.Core.List.{[], _∷_}
 use borrow.Author.Needs.{needs}
+use Rattle.model.specs.Refusals.{notSound}
 use Rattle.answers.specs.declared.cases.Refusal.the-variants.{NotSound}
 use Rattle.promises.specs.Books.{bookOf}
+use Rattle.admitting.specs.Admission.{argumentTests}
 use Rattle.admitting.proofs.Admitting.{fine-true, sound-next, refused-next, not-admitted}
 use Rattle.admitting.proofs.admits.admit_indexed.Statement.{statement}
 use Rattle.admitting.proofs.admits.admit_indexed.Tie as tie
 
-admit-walk-requires : tie.Need-admit-walk-requires
-admit-walk-requires c κs = search needs
+admit-arguments-requires : tie.Need-admit-arguments-requires
+admit-arguments-requires c κs = search needs
 
 enum-told : tie.Need-enum-told
 enum-told c = search needs
@@ -33,7 +36,7 @@ returns c =
     let tested = told .before .before in
     let args = tested .before .before .before .args in
     let sound = called .sound-indexed .ensures .0 in (
-      rw (c .if-fine .ensures, sound) (sound-next (bookOf (args .t .now)) (args .m) (args .arguments) (told .enum-told .given .1) (tested .admit-walk .ensures)),
+      rw (c .if-fine .ensures, sound) (sound-next (bookOf (args .t .now)) (args .m) (args .arguments) (told .enum-told .given .1) (tested .admit-arguments .ensures)),
       λ fine. called .sound-indexed .ensures .1 (fine-true _ NotSound (sym (c .if-fine .ensures) ∙ fine)),
     )
 
@@ -41,13 +44,13 @@ returns-2 : tie.Need-returns-2
 returns-2 c =
     let tested = c .before .before .before in
     let args = tested .before .before .before .args in
-    (refused-next (bookOf (args .t .now)) (args .m) (args .arguments) (c .before .r .given .1) (tested .admit-walk .ensures), not-admitted)
+    (refused-next (argumentTests (bookOf (args .t .now)) (args .m) (args .arguments)) (notSound (bookOf (args .t .now)) ∷ []) (c .before .r .given .1) (tested .admit-arguments .ensures), not-admitted)
 
 pub admit-indexed-spec : {M : Type 1} → statement M
 admit-indexed-spec =
     tie.close
     (tie.spec
-    admit-walk-requires
+    admit-arguments-requires
     enum-told
     sound-indexed-requires
     if-fine-requires

@@ -6,7 +6,6 @@ use borrow.Author.Needs.{needs}
 use borrow.Author.Tests.{not-true, not-false}
 use Rattle.model.proofs.Refusals.{mission-over, mission-under}
 use Rattle.rows.specs.Table.{lengthOk}
-use Rattle.admitting.proofs.Admitting.{verdict-given}
 use Rattle.admitting.proofs.admits.admit_walk.Statement.{statement}
 use Rattle.admitting.proofs.admits.admit_walk.Tie as tie
 
@@ -25,7 +24,7 @@ returns-2 c = rw (length-fine (c .before), mission-over (c .before .before .befo
 returns-3 : tie.Need-returns-3
 returns-3 c =
     let args = c .before .before .before .before .args in
-    rw (length-fine (c .before), mission-under (args .m) (omega arith)) (verdict-given (args .arguments))
+    rw (length-fine (c .before), mission-under (args .m) (omega arith))
 
 pub admit-walk-spec : {M : Type 1} → statement M
 admit-walk-spec = tie.close (tie.spec length-ok-requires returns returns-2 returns-3)
