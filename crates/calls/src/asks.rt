@@ -3,10 +3,10 @@ use admitting::Admission;
 use admitting::admit_walk;
 use answers::Asked;
 use answers::Refusal;
-use letters::is_spelled;
 use letters::long_as_name;
+use walking::Walked;
 use walking::ends;
-use walking::walk_list;
+use walking::walk_word;
 ghost use Prim.Native.Nat.{_<_};
 ghost use mathlib.Core.Path.{_≡_};
 ghost use mathlib.Core.Bool.{true};
@@ -32,20 +32,15 @@ fn asked(t: &[u16], row: usize, followed: u32) -> Asked
     }
 }
 
-// 4, and the walk. A byte that is no letter stops it: so it is among those that are left.
+// 4, and what the walk finds.
 fn ask_walk(t: &[u16], m: usize, name: &[u8]) -> Asked
     requires { ⌜ (lengthOk (now t) ≡ true) × (m < missions) ⌝ }
     ensures { λ a. ⌜ askReply a ≡ wordReply (isName (now (name .entry))) (askWalk (now (t .entry)) m (now (name .entry))) ⌝ }
 {
-    if !long_as_name(name) {
-        return Asked::Refused(Refusal::Name);
+    match walk_word(t, m, name, long_as_name(name)) {
+        Walked::Ended { row, followed } => asked(t, row, followed as u32),
+        Walked::NoWord => Asked::Refused(Refusal::Name),
     }
-    let way = walk_list(t, m, name);
-    let followed = name.len() - way.left;
-    if !is_spelled(&name[followed..]) {
-        return Asked::Refused(Refusal::Name);
-    }
-    asked(t, way.row, followed as u32)
 }
 
 pub fn ask(t: &[u16], m: u32, name: &[u8]) -> Asked

@@ -3,11 +3,11 @@ use admitting::Admission;
 use admitting::admit_walk;
 use answers::Following;
 use answers::Refusal;
-use letters::is_spelled;
 use letters::letter_count;
 use letters::long_as_prefix;
+use walking::Walked;
 use walking::letter_set;
-use walking::walk_list;
+use walking::walk_word;
 ghost use Prim.Native.Nat.{_<_};
 ghost use mathlib.Core.Path.{_≡_};
 ghost use mathlib.Core.Bool.{true};
@@ -35,20 +35,15 @@ fn following(t: &[u16], row: usize) -> Following
     }
 }
 
-// 4, and the walk, as in ask.
+// 4, and what the walk finds.
 fn next_walk(t: &[u16], m: usize, prefix: &[u8]) -> Following
     requires { ⌜ (lengthOk (now t) ≡ true) × (m < missions) ⌝ }
     ensures { λ a. ⌜ nextReply a ≡ wordReply (isPrefix (now (prefix .entry))) (nextWalk (now (t .entry)) m (now (prefix .entry))) ⌝ }
 {
-    if !long_as_prefix(prefix) {
-        return Following::Refused(Refusal::Name);
+    match walk_word(t, m, prefix, long_as_prefix(prefix)) {
+        Walked::Ended { row, followed: _ } => following(t, row),
+        Walked::NoWord => Following::Refused(Refusal::Name),
     }
-    let way = walk_list(t, m, prefix);
-    let walked = prefix.len() - way.left;
-    if !is_spelled(&prefix[walked..]) {
-        return Following::Refused(Refusal::Name);
-    }
-    following(t, way.row)
 }
 
 pub fn next(t: &[u16], m: u32, prefix: &[u8]) -> Following

@@ -15,11 +15,14 @@ use Rattle.letters.specs.Words.{wordOf, rest}
 use Rattle.letters.specs.Names.{spelled}
 use Rattle.letters.proofs.Tests.{by-test}
 use Rattle.letters.proofs.Words.{all-left}
-use Rattle.rows.specs.Table.{Table, isRow, target}
-use Rattle.rows.specs.Walk.{walk, walkFrom}
+use Rattle.sets.proofs.Membership.{fails}
+use Rattle.rows.specs.Table.{Table, isRow, start, target}
+use Rattle.rows.specs.Walk.{walkFrom, followed as arcsFollowed}
 use Rattle.rows.proofs.Walk.{walk-none, walk-empty, walk-on, walk-stops}
 use Rattle.walking.specs.declared.walk.Way.{Way}
-use Rattle.walking.specs.Ways.{leadsTo, way, wayFrom}
+use Rattle.walking.specs.declared.walk.Walked.{Walked}
+use Rattle.walking.specs.declared.walk.Walked.the-variants.{Ended, NoWord}
+use Rattle.walking.specs.Ways.{leadsTo, way, wayFrom, walked}
 
 -- ---- the steps of the loop
 
@@ -114,3 +117,32 @@ way-ends t bytes n =
       row = λ fine. rw (walk-none t n out (wordOf bytes));
       left = λ fine. rw (walk-none t n out (wordOf bytes)) (sym (length-map bytes letter));
     }))
+
+-- ---- what is told of a word
+
+abbrev hasEnded : Walked → Bool
+hasEnded (Ended row followed) = true
+hasEnded NoWord = false
+
+-- the walk of the word is this
+pub record WordEnds (t : Table) (m : ℕ) (bytes : List ℕ) (long : Bool) (row followed : ℕ) : Type 0 where
+  pub fine : (long && spelled bytes) ≡ true
+  pub at : row ≡ walkFrom t (wordOf bytes) (start t m) .row
+  pub arcs : followed ≡ arcsFollowed t (wordOf bytes) (start t m)
+
+module _ (t : Table) (m : ℕ) (bytes : List ℕ) (long : Bool) where
+  pub word-ends : (row followed : ℕ) → walked t m bytes long ≡ Ended row followed → WordEnds t m bytes long row followed
+  word-ends row followed e =
+      by-test (long && spelled bytes)
+      (λ fine.
+      let same : Ended (walkFrom t (wordOf bytes) (start t m) .row) (arcsFollowed t (wordOf bytes) (start t m)) ≡ Ended row followed = rw fine at e in
+      record { fine = fine; at = cc same; arcs = cc same })
+      (λ bad. let same : NoWord ≡ Ended row followed = rw bad at e in absurd (false≢true (ap hasEnded same)))
+
+  pub no-word : walked t m bytes long ≡ NoWord → (long && spelled bytes) ≡ false
+  no-word e =
+      fails (long && spelled bytes)
+      (λ fine.
+      let w = wordOf bytes in
+      let same : Ended (walkFrom t w (start t m) .row) (arcsFollowed t w (start t m)) ≡ NoWord = rw fine at e in
+      false≢true (sym (ap hasEnded same)))

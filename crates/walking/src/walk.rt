@@ -1,5 +1,6 @@
 // The walk of a word, and the arcs of a row.
 use letters::LETTERS;
+use letters::is_spelled;
 use letters::letter_of;
 use letters::with_letter;
 use rows::is_row;
@@ -16,12 +17,12 @@ ghost use Rattle.letters.specs.Names.{spelled};
 ghost use Rattle.letters.specs.LetterSet.{flag, sumOf};
 ghost use Rattle.rows.specs.Table.{isRow, start, ends};
 ghost use Rattle.rows.specs.Walk.{accepts, hasArc};
-ghost use Rattle.walking.specs.Ways.{leadsTo, way, wayFrom};
+ghost use Rattle.walking.specs.Ways.{leadsTo, way, wayFrom, walked};
 
 // How far the walk of some bytes gets: the row where it ends, or 0 where it stops, and how many bytes are left there.
-pub struct Way {
-    pub row: usize,
-    pub left: usize,
+struct Way {
+    row: usize,
+    left: usize,
 }
 
 // Where a byte leads from a row: its letter's target, and 0 for a byte that is no letter.
@@ -47,7 +48,10 @@ fn walk_from(t: &[u16], first: usize, word: &[u8]) -> Way
     while left.len() != 0 {
         let next = leads_to(t, row, left[0]);
         if !is_row(t, next) {
-            return Way { row: 0, left: left.len() };
+            return Way {
+                row: 0,
+                left: left.len(),
+            };
         }
         row = next;
         left = &left[1..];
@@ -56,15 +60,44 @@ fn walk_from(t: &[u16], first: usize, word: &[u8]) -> Way
 }
 
 // The walk from a mission's start.
-pub fn walk_list(t: &[u16], m: usize, word: &[u8]) -> Way
+fn walk_list(t: &[u16], m: usize, word: &[u8]) -> Way
     requires { ⌜ m < length (now t) ⌝ }
     ensures { λ w. ⌜ w ≡ wayFrom (now (t .entry)) (now (word .entry)) (start (now (t .entry)) m) ⌝ }
 {
     let first = start(t, m) as usize;
     if !is_row(t, first) {
-        return Way { row: 0, left: word.len() };
+        return Way {
+            row: 0,
+            left: word.len(),
+        };
     }
     walk_from(t, first, word)
+}
+
+// Where the walk of a word ends, and "the arcs it followed". Bytes are no word if they are not as long as they may be, or
+// one of them is no letter.
+pub enum Walked {
+    Ended { row: usize, followed: usize },
+    NoWord,
+}
+
+// The walk of a word from a mission's start. A byte that is no letter stops it, so it is among those that are left.
+pub fn walk_word(t: &[u16], m: usize, word: &[u8], long: bool) -> Walked
+    requires { ⌜ m < length (now t) ⌝ }
+    ensures { λ w. ⌜ w ≡ walked (now (t .entry)) m (now (word .entry)) long ⌝ }
+{
+    if !long {
+        return Walked::NoWord;
+    }
+    let way = walk_list(t, m, word);
+    let followed = word.len() - way.left;
+    if !is_spelled(&word[followed..]) {
+        return Walked::NoWord;
+    }
+    Walked::Ended {
+        row: way.row,
+        followed,
+    }
 }
 
 // May a name end at n?
