@@ -40,7 +40,7 @@ fine-true false otherwise e = cc
 pub not-admitted : {A : Type 0} {r : Refusal} → _≡_ {A = Admission} (Refused r) Admitted → A
 not-admitted e = let z : _≡_ {A = ℕ} 0 1 = cc in absurd (omega arith)
 
-pub verdict-given : (a : Admission) → admissionNumber a ≡ given (verdict a ∷ [])
+verdict-given : (a : Admission) → admissionNumber a ≡ given (verdict a ∷ [])
 verdict-given Admitted = refl
 verdict-given (Refused r) = refl
 

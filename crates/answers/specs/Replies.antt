@@ -30,7 +30,7 @@ refusalNumber NoRoom = 11
 abbrev pub doneBoth : ℕ → ℕ → Reply
 doneBoth value second = record { number = 0; value = value; second = second }
 
-abbrev pub doneReply : ℕ → Reply
+abbrev doneReply : ℕ → Reply
 doneReply value = doneBoth value 0
 
 -- "A refusal has value 0 (next: both values 0)"; 02, wish 1: "A refusal reports 0."

@@ -2,12 +2,11 @@
 -- Assumes nothing.
 use Prim.Native.Nat.{ℕ, suc, _-_, _≤_, _<_}
 use mathlib.Core.Path.{_≡_, refl}
-use mathlib.Core.Bool.{true, _&&_, and-eq-true-iff}
+use mathlib.Core.Bool.{true, and-eq-true-iff}
 use mathlib.Core.List.{List, [], _∷_}
 use native.Mathlib.Nat.{not-suc-le-zero}
 use native.Mathlib.Omega.{arith}
 use borrow.Author.Tests.{ltb-true, leb-true, lt-ltb, le-leb}
-use lib.Dec.{ltb}
 use lib.ListN.{length, getD, length-map}
 use lib.Seq.{take-all}
 use Rattle.letters.specs.Letters.{letters, letter}
@@ -27,15 +26,11 @@ pub rest-length : (bytes : List ℕ) → 0 < length bytes → suc (length (rest 
 rest-length [] some = absurd (not-suc-le-zero some)
 rest-length (b ∷ bytes) some = rw (all-left b bytes)
 
-pub spelled-step : (bytes : List ℕ) → 0 < length bytes → spelled bytes ≡ (ltb (letter (getD bytes 0 0)) letters && spelled (rest bytes))
-spelled-step [] some = absurd (not-suc-le-zero some)
-spelled-step (b ∷ bytes) some = rw (all-left b bytes)
-
 pub spelled-rest : (bytes : List ℕ) → 0 < length bytes → Spelled (wordOf bytes)
     → (letter (getD bytes 0 0) < letters) × Spelled (wordOf (rest bytes))
 spelled-rest bytes some s = rw (word-rest bytes some) at s
 
-pub spelled-word : (bytes : List ℕ) → spelled bytes ≡ true → Spelled (wordOf bytes)
+spelled-word : (bytes : List ℕ) → spelled bytes ≡ true → Spelled (wordOf bytes)
 spelled-word [] e = tt
 spelled-word (b ∷ bytes) e =
     let parts = and-eq-true-iff _ _ .0 e in

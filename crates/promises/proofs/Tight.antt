@@ -4,21 +4,20 @@
 -- else the book was sound, and both are sound books with the model's lists. Assumes nothing.
 use Prim.Native.Nat.{ℕ, zero, suc}
 use native.Mathlib.Omega.{arith}
-use mathlib.Core.Path.{_≡_, refl, sym, _∙_, ap, ap₂}
+use mathlib.Core.Path.{_≡_, refl, sym, _∙_, ap}
 use mathlib.Core.Bool.{Bool, true, false}
 use mathlib.Core.List.{List}
 use lib.ListN.{length, replicate}
 use borrow.Author.Tests.{not-false}
 use Rattle.letters.specs.Words.{wordOf}
 use Rattle.letters.specs.Names.{isName, isPrefix}
-use Rattle.letters.specs.LetterSet.{flag}
 use Rattle.letters.proofs.Words.{name-parts, prefix-parts}
 use Rattle.letters.proofs.LetterSet.{sum-agree, count-agree}
 use Rattle.sets.proofs.Membership.{here, there}
 use Rattle.model.specs.Call.{Book, Call}
 use Rattle.model.specs.Call.Call.{empty, check, ask, next, add, remove, clear, load, combine, count, rank, nth, used}
 use Rattle.model.specs.Refusals.{given, noName, noPrefix}
-use Rattle.model.specs.Rules.{Rule, answers, askRule, nextRule}
+use Rattle.model.specs.Rules.{Rule, askRule, nextRule}
 use Rattle.model.specs.Run.{ruled, run}
 use Rattle.model.proofs.Changes.{done-sound}
 use Rattle.rows.specs.Table.{Table, lengthOk}

@@ -46,7 +46,7 @@ module _ (t : Table) (n : ℕ) where
 
 -- the arcs that it followed
 module _ (t : Table) where
-  pub left-few : (w : Word) (n : ℕ) → length (walkFrom t w n .left) ≤ length w
+  left-few : (w : Word) (n : ℕ) → length (walkFrom t w n .left) ≤ length w
   left-few [] n = by-test (isRow t n) (λ e. rw (walk-empty t n e) (omega arith)) (λ e. rw (walk-none t n e []) (omega arith))
   left-few (x ∷ w) n =
       by-test (isRow t n)

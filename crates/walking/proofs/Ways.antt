@@ -6,7 +6,6 @@ use native.Mathlib.Omega.{arith}
 use mathlib.Core.Path.{_≡_, refl, sym, _∙_, ap}
 use mathlib.Core.Bool.{Bool, true, false, _&&_, false≢true, and-eq-true-iff}
 use mathlib.Core.List.{List, [], _∷_}
-use borrow.Author.Tests.{ltb-true, lt-ltb, le-ltb}
 use lib.Dec.{ltb}
 use lib.ListN.{length, getD, take, drop, length-drop, length-map}
 use lib.Seq.{take-all}
@@ -82,7 +81,7 @@ module _ (t : Table) where
       (λ stops. rw (stops, walk-stops t r row (letter b) (wordOf bytes) stops, length-map bytes letter)))
 
 -- the bytes that are left, as the part of the slice that is handed on
-abbrev pub leftOf : List ℕ → ℕ → List ℕ
+abbrev leftOf : List ℕ → ℕ → List ℕ
 leftOf bytes left = let walked = length bytes - left in take (length bytes - walked) (drop walked bytes)
 
 all-of-left : (bytes : List ℕ) (left : ℕ) → leftOf bytes left ≡ drop (length bytes - left) bytes
@@ -130,19 +129,20 @@ pub record WordEnds (t : Table) (m : ℕ) (bytes : List ℕ) (long : Bool) (row 
   pub at : row ≡ walkFrom t (wordOf bytes) (start t m) .row
   pub arcs : followed ≡ arcsFollowed t (wordOf bytes) (start t m)
 
-module _ (t : Table) (m : ℕ) (bytes : List ℕ) (long : Bool) where
-  pub word-ends : (row followed : ℕ) → walked t m bytes long ≡ Ended row followed → WordEnds t m bytes long row followed
+module _ (t : Table) (m : ℕ) (bytes : List ℕ) {told : Walked} {asked long : Bool} (walk : told ≡ walked t m bytes asked) (same : asked ≡ long) where
+  abbrev end : Walked
+  end = let w = wordOf bytes in Ended (walkFrom t w (start t m) .row) (arcsFollowed t w (start t m))
+
+  said : told ≡ walked t m bytes long
+  said = rw same at walk
+
+  pub word-ends : (row followed : ℕ) → told ≡ Ended row followed → WordEnds t m bytes long row followed
   word-ends row followed e =
       by-test (long && spelled bytes)
-      (λ fine.
-      let same : Ended (walkFrom t (wordOf bytes) (start t m) .row) (arcsFollowed t (wordOf bytes) (start t m)) ≡ Ended row followed = rw fine at e in
-      record { fine = fine; at = cc same; arcs = cc same })
-      (λ bad. let same : NoWord ≡ Ended row followed = rw bad at e in absurd (false≢true (ap hasEnded same)))
+      (λ fine. let this : end ≡ Ended row followed = rw fine at (sym said ∙ e) in record { fine = fine; at = cc this; arcs = cc this })
+      (λ bad. let this : NoWord ≡ Ended row followed = rw bad at (sym said ∙ e) in absurd (false≢true (ap hasEnded this)))
 
-  pub no-word : walked t m bytes long ≡ NoWord → (long && spelled bytes) ≡ false
+  pub no-word : told ≡ NoWord → (long && spelled bytes) ≡ false
   no-word e =
       fails (long && spelled bytes)
-      (λ fine.
-      let w = wordOf bytes in
-      let same : Ended (walkFrom t w (start t m) .row) (arcsFollowed t w (start t m)) ≡ NoWord = rw fine at e in
-      false≢true (sym (ap hasEnded same)))
+      (λ fine. let this : end ≡ NoWord = rw fine at (sym said ∙ e) in false≢true (sym (ap hasEnded this)))

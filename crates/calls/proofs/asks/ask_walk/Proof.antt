@@ -1,14 +1,13 @@
 -- `ask_walk` meets its promise: the walk of the word answers, or the bytes are no name. Assumes nothing.
 use native.Mathlib.Omega.{arith}
-use mathlib.Core.Path.{_≡_, sym, _∙_, ap}
-use mathlib.Core.Bool.{Bool, and-eq-true-iff}
+use mathlib.Core.Path.{_∙_}
+use mathlib.Core.Bool.{and-eq-true-iff}
 use borrow.Author.Needs.{needs}
 use lib.ListN.{length-map}
 use Rattle.letters.specs.Letters.{letter}
 use Rattle.letters.specs.Names.{longAsName, isName}
 use Rattle.letters.proofs.Words.{long-parts}
 use Rattle.rows.proofs.Rules.{start-inside}
-use Rattle.walking.specs.Ways.{walked}
 use Rattle.walking.proofs.Ways.{WordEnds, word-ends, no-word}
 use Rattle.calls.proofs.asks.ask_walk.Statement.{statement}
 use Rattle.calls.proofs.asks.ask_walk.Tie as tie
@@ -19,23 +18,17 @@ long-as-name-requires c κs = search needs
 walk-word-requires : tie.Need-walk-word-requires
 walk-word-requires c κs = let (fine, mission) = c .before .before .before .pre in start-inside _ fine _ mission
 
--- what was walked
-found : (c : tie.After-walk-word) →
-    let args = c .before .before .before .before .args in
-    c .walk-word .result ≡ walked (args .t .now) (args .m) (args .name .now) (longAsName (args .name .now))
-found c =
-    let args = c .before .before .before .before .args in
-    c .walk-word .ensures ∙ ap (λ (long : Bool). walked (args .t .now) (args .m) (args .name .now) long) (c .before .long-as-name .ensures)
-
 enum-known-row : tie.Need-enum-known-row
 enum-known-row c = search needs
 
+-- what the end of the walk tells
 ended : (c : tie.After-row) →
     let args = c .before .before .before .before .before .before .args in
     WordEnds (args .t .now) (args .m) (args .name .now) (longAsName (args .name .now)) (c .row .given .0 .0) (c .row .given .0 .1 .0)
 ended c =
-    let args = c .before .before .before .before .before .before .args in
-    word-ends (args .t .now) (args .m) (args .name .now) (longAsName (args .name .now)) _ _ (sym (found (c .before .before)) ∙ c .row .given .1)
+    let called = c .before .before in
+    let args = called .before .before .before .before .args in
+    word-ends (args .t .now) (args .m) (args .name .now) (called .walk-word .ensures) (called .before .long-as-name .ensures) _ _ (c .row .given .1)
 
 cast-asked : tie.Need-cast-asked
 cast-asked c =
@@ -57,9 +50,9 @@ returns c = let told = ended (c .before .before) in c .asked .ensures ∙ rw (to
 returns-2 : tie.Need-returns-2
 unfolding isName
 returns-2 c =
-    let args = c .before .before .before .before .before .before .args in
-    rw
-    (no-word (args .t .now) (args .m) (args .name .now) (longAsName (args .name .now)) (sym (found (c .before .before)) ∙ c .enum-told .given .1))
+    let called = c .before .before in
+    let args = called .before .before .before .before .args in
+    rw (no-word (args .t .now) (args .m) (args .name .now) (called .walk-word .ensures) (called .before .long-as-name .ensures) (c .enum-told .given .1))
 
 pub ask-walk-spec : {M : Type 1} → statement M
 ask-walk-spec = tie.close (tie.spec long-as-name-requires walk-word-requires enum-known-row cast-asked asked-requires enum-told returns returns-2)

@@ -1,6 +1,6 @@
 -- `has_name` meets its promise: the name is letters, so the walk ends where its word leads, and the mark there decides. Assumes nothing.
 use Prim.Native.Nat.{ℕ}
-use mathlib.Core.Path.{_≡_, _∙_, ap}
+use mathlib.Core.Path.{_∙_, ap}
 use borrow.Author.Needs.{needs}
 use Rattle.rows.specs.Table.{start, ends}
 use Rattle.walking.proofs.Ways.{way-ends}

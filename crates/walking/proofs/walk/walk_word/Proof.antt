@@ -1,6 +1,6 @@
 -- `walk_word` meets its promise: the branches settle whether the bytes are as long as they may be and whether those that are left are letters; then
 -- all are, and the walk is that of their word. Assumes nothing.
-use Prim.Native.Nat.{ℕ, _-_}
+use Prim.Native.Nat.{_-_}
 use native.Mathlib.Omega.{arith}
 use mathlib.Core.Path.{_≡_, sym, _∙_}
 use mathlib.Core.Bool.{true}
