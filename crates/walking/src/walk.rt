@@ -74,14 +74,15 @@ fn walk_list(t: &[u16], m: usize, word: &[u8]) -> Way
     walk_from(t, first, word)
 }
 
-// Where the walk of a word ends, and "the arcs it followed". Bytes are no word if they are not as long as they may be, or
-// one of them is no letter.
+// Where the walk of a word ends, a row or 0 for none, and "the arcs it followed". Bytes are no word if they are not
+// as long as they may be, or one of them is no letter.
 pub enum Walked {
     Ended { row: usize, followed: usize },
     NoWord,
 }
 
-// The walk of a word from a mission's start. A byte that is no letter stops it, so it is among those that are left.
+// The walk of a word from a mission's start. A byte that is no letter stops it, so that it is among those that are
+// left; these are looked through behind the walk.
 pub fn walk_word(t: &[u16], m: usize, word: &[u8], long: bool) -> Walked
     requires { ⌜ m < length (now t) ⌝ }
     ensures { λ w. ⌜ w ≡ walked (now (t .entry)) m (now (word .entry)) long ⌝ }
