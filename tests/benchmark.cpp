@@ -830,6 +830,7 @@ void print_brief(const std::vector<Contest> &contests, const std::vector<std::ve
     print_slow_times(slow);
     for (const std::string call : calls)
         if (small.has(call)) print_time(call, small);
+    for (const char *call : {"ask", "next"}) print_time(call, large); // the calls that no check makes slow
 }
 
 // ---- What is asked for --------------------------------------------------------------------------------------------
