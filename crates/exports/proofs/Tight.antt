@@ -24,22 +24,34 @@ unfolding unpackedNext
 packed-apart-next letters number count small =
     ap₂ (λ (n : ℕ) (c : ℕ). record { number = n; value = letters; second = c }) (omega arith) (omega arith)
 
+-- a way to take a reply from what is put and what is returned, where nothing else gives this reply
+abbrev TellsApart : (ℕ → ℕ → Reply) → Type 0
+TellsApart reply = (k l r s : ℕ) → reply k r ≡ reply l s → (r ≡ s) × (k ≡ l)
+
+with-apart : TellsApart unpackedWith
+unfolding unpackedWith
+with-apart k l r s e =
+    (omega (arith, ap (λ (z : Reply). z .number) e, ap (λ (z : Reply). z .value) e), ap (λ (z : Reply). z .second) e)
+
+next-apart : TellsApart unpackedNext
+unfolding unpackedNext
+next-apart k l r s e =
+    (omega (arith, ap (λ (z : Reply). z .number) e, ap (λ (z : Reply). z .second) e), ap (λ (z : Reply). z .value) e)
+
+apart-tight : (reply : ℕ → ℕ → Reply) → TellsApart reply → (t u v : Table) (before x y : List ℕ) (call : Call) (k l r s : ℕ)
+    → Promised t u before x call (reply k r) → Promised t v before y call (reply l s)
+    → (r ≡ s) × (k ≡ l) × Tight t u v before x y call (reply k r) (reply l s)
+apart-tight reply apart t u v before x y call k l r s p q =
+    let tight = promised-tight t u v before x y call (reply k r) (reply l s) p q in
+    let (returned, put) = apart k l r s (tight .same .replies) in
+    (returned, put, tight)
+
 -- Two outcomes of a function of include/book.h other than next: what is returned, and the second value, which is put by ask alone.
 pub packs-tight : (t u v : Table) (before x y : List ℕ) (call : Call) (k l r s : ℕ) → Promised t u before x call (unpackedWith k r)
     → Promised t v before y call (unpackedWith l s) → (r ≡ s) × (k ≡ l) × Tight t u v before x y call (unpackedWith k r) (unpackedWith l s)
-unfolding unpackedWith
-packs-tight t u v before x y call k l r s p q =
-    let tight = promised-tight t u v before x y call (unpackedWith k r) (unpackedWith l s) p q in
-    let number = ap (λ (z : Reply). z .number) (tight .same .replies) in
-    let value = ap (λ (z : Reply). z .value) (tight .same .replies) in
-    (omega (arith, number, value), ap (λ (z : Reply). z .second) (tight .same .replies), tight)
+packs-tight = apart-tight unpackedWith with-apart
 
 -- Two outcomes of next: what is returned, and the letters.
 pub packs-next-tight : (t u v : Table) (before x y : List ℕ) (call : Call) (k l r s : ℕ) → Promised t u before x call (unpackedNext k r)
     → Promised t v before y call (unpackedNext l s) → (r ≡ s) × (k ≡ l) × Tight t u v before x y call (unpackedNext k r) (unpackedNext l s)
-unfolding unpackedNext
-packs-next-tight t u v before x y call k l r s p q =
-    let tight = promised-tight t u v before x y call (unpackedNext k r) (unpackedNext l s) p q in
-    let number = ap (λ (z : Reply). z .number) (tight .same .replies) in
-    let count = ap (λ (z : Reply). z .second) (tight .same .replies) in
-    (omega (arith, number, count), ap (λ (z : Reply). z .value) (tight .same .replies), tight)
+packs-next-tight = apart-tight unpackedNext next-apart
