@@ -1,6 +1,6 @@
 -- What a renumbering carries, whatever numbers the two tables hold. A number is a row exactly if the number that it is carried to is one. So a
--- walk goes the same way and ends where the other's end is carried to, with the same letters left; ask and next say the same, and the words are the same. No two numbers
--- are carried to the same; so a renumbering goes back, and another goes on from it. Assumes nothing.
+-- walk goes the same way and ends where the other's end is carried to, with the same letters left; ask and next say the same, and the words are
+-- the same. No two numbers are carried to the same; so a renumbering goes back, and another goes on from it. Assumes nothing.
 use Prim.Native.Nat.{ℕ, _<_}
 use native.Mathlib.Omega.{arith}
 use mathlib.Core.Path.{_≡_, refl, sym, _∙_, ap}

@@ -1,5 +1,6 @@
--- On a sound book what a call comes to is the model's outcome: ask and next by the walk are the model's. The refusals are the same; where none applies, the mission is one of the sixteen
--- and the bytes are a word of letters, and there the walk says what the plain set says. Assumes nothing.
+-- On a sound book what a call comes to is the model's outcome: ask and next by the walk are the model's. The refusals are the same; where none
+-- applies, the mission is one of the sixteen and the bytes are a word of letters, and there the walk says what the plain set says. Assumes
+-- nothing.
 use Prim.Native.Nat.{ℕ, zero, suc, _<_}
 use native.Mathlib.Omega.{arith}
 use mathlib.Core.Path.{_≡_, refl}

@@ -1,6 +1,7 @@
 -- The sixteen lists of a table, and the rows of a sound book. The lists are plain on every table, and on a tidy one they are lists of names: a
--- start has mark 1, so the empty word is none of its words. There ask and next say what the plain sets say: whether the name is there, how far it gets, what may follow. In a sound book every row in use
--- is reached from a start: it is one, or the target of a higher row; and no row is higher than the longest name. Assumes nothing.
+-- start has mark 1, so the empty word is none of its words. There ask and next say what the plain sets say: whether the name is there, how far
+-- it gets, what may follow. In a sound book every row in use is reached from a start: it is one, or the target of a higher row; and no row is
+-- higher than the longest name. Assumes nothing.
 use Prim.Native.Nat.{ℕ, zero, suc, _+_, _<_}
 use native.Mathlib.Omega.{arith}
 use mathlib.Core.Path.{_≡_, refl, sym, _∙_}
