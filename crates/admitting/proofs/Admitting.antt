@@ -131,8 +131,7 @@ refused-outcome b (suc n) done some = refl
 pub refused-first : (b : Book) (r : Rule) (tests more : List Test) → given (r .refusals) ≡ given (tests ++ more)
     → {a : Admission} {why : Refusal} → a ≡ Refused why → admissionNumber a ≡ given tests → ruled b r ≡ refused (refusalNumber why) b
 refused-first b r tests more begins {a} {why} told e =
-    let number : refusalNumber why ≡ given tests = rw told at e in
-    let same : given (r .refusals) ≡ refusalNumber why = begins ∙ given-first tests more (omega (arith, refusal-positive why)) ∙ sym number in
+    let same : given (r .refusals) ≡ refusalNumber why = begins ∙ sym (refused-next tests more told e) in
     rw same (refused-outcome b (refusalNumber why) _ (refusal-positive why))
 
 -- Where the tests are all that the rule has, and pass, the call is done.
