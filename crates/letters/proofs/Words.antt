@@ -40,6 +40,10 @@ spelled-bytes : (w : Word) → Spelled w → spelled (bytesOf w) ≡ true
 spelled-bytes [] s = refl
 spelled-bytes (x ∷ w) s = simp (letter-byteOf x (s .0), lt-ltb x letters (s .0), spelled-bytes w (s .1))
 
+pub word-again : (w : Word) → Spelled w → wordOf (bytesOf w) ≡ w
+word-again [] s = refl
+word-again (x ∷ w) s = rw (letter-byteOf x (s .0), word-again w (s .1))
+
 pub prefix-parts : (bytes : List ℕ) → isPrefix bytes ≡ true → (length bytes ≤ longest) × Spelled (wordOf bytes)
 unfolding isPrefix
 prefix-parts bytes e =

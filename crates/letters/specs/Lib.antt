@@ -6,5 +6,6 @@ pub mod Letters
 pub mod Words
 pub mod Orders
 pub mod Names
+pub mod Parts
 pub mod Lists
 pub mod LetterSet

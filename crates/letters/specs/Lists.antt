@@ -1,12 +1,12 @@
 -- Lists for load: their lines, and the names that these are. Assumes nothing.
 use Prim.Native.Nat.{ℕ, _+_}
 use mathlib.Core.Bool.{Bool, true, cond, _&&_}
-use mathlib.Core.List.{List, [], _∷_, map}
+use mathlib.Core.List.{List, [], _∷_, _++_, map}
 use lib.Dec.{leb, eqb}
 use lib.ListN.{length, drop}
 use Rattle.letters.specs.Each.{every}
 use Rattle.letters.specs.Letters.{lineEnd}
-use Rattle.letters.specs.Words.{Word, wordOf, before}
+use Rattle.letters.specs.Words.{Word, wordOf, bytesOf, before}
 use Rattle.letters.specs.Names.{isName}
 
 -- "at most 65,535 bytes"
@@ -50,6 +50,14 @@ rises (u ∷ v ∷ words) = before u v && rises (v ∷ words)
 -- the words of a list for load
 abbrev pub namesOf : List ℕ → List Word
 namesOf bytes = map wordOf (linesOf bytes)
+
+-- "each name followed by 0x0A": a word's line, and one line after another
+abbrev pub line : Word → List ℕ
+line w = bytesOf w ++ lineEnd ∷ []
+
+unfoldable pub lines : List Word → List ℕ
+lines [] = []
+lines (w ∷ words) = line w ++ lines words
 
 -- "A list for load is bytes: each name followed by 0x0A, names strictly rising, at most 65,535 bytes. No bytes is the empty list."
 unfoldable pub isList : List ℕ → Bool

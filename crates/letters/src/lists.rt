@@ -1,18 +1,20 @@
 // Lists for load: is it one, and its names one by one.
 use super::names::is_before;
 use super::names::is_name;
+ghost use Prim.Native.Nat.{_≤_};
 ghost use mathlib.Core.Path.{_≡_};
 ghost use mathlib.Core.Bool.{_&&_};
 ghost use lib.ListN.{length};
 ghost use Rattle.letters.specs.Each.{every};
 ghost use Rattle.letters.specs.Names.{isName};
+ghost use Rattle.letters.specs.Parts.{Part};
 ghost use Rattle.letters.specs.Lists.{nameAt, nameEnd, linesOf, ended, rises, namesOf, isList};
 
 // "each name followed by 0x0A".
 pub const LINE_END: u8 = 0x0A;
 
 // The most bytes of a list.
-const LONGEST_LIST: usize = 65535;
+pub const LONGEST_LIST: usize = 65535;
 
 // Where the name that starts at a place ends: at the first line end from there on, or where the
 // list ends.
@@ -31,26 +33,14 @@ pub fn name_end(s: &[u8], at: usize) -> usize
 
 // The name that starts at a place, as a part of the list.
 pub fn name_at(s: &[u8], at: usize) -> &[u8]
-    ensures { λ r. ⌜ now r ≡ nameAt (now (s .entry)) at ⌝ }
+    ensures bytes { λ r. ⌜ now r ≡ nameAt (now (s .entry)) at ⌝ }
+    ensures part { λ r. ⌜ (at ≤ length (now (s .entry)) → Part (s .entry) at (nameEnd (now (s .entry)) at) r) ⌝ }
 {
     if s.len() < at {
         return &s[0..0];
     }
     let end = name_end(s, at);
     &s[at..end]
-}
-
-// How many names there are.
-pub fn name_count(s: &[u8]) -> usize
-    ensures { λ n. ⌜ n ≡ length (namesOf (now (s .entry))) ⌝ }
-{
-    let mut n = 0;
-    let mut at = 0;
-    while at < s.len() {
-        at = name_end(s, at) + 1;
-        n += 1;
-    }
-    n
 }
 
 // Has every line its end, and is every line a name?

@@ -13,6 +13,7 @@ use lib.Dec.{leb, ltb}
 use lib.ListN.{length, drop, length-drop}
 use Rattle.letters.specs.Each.{Each}
 use Rattle.letters.specs.Names.{longest}
+use Rattle.letters.specs.Lists.{lines}
 use Rattle.sets.specs.Sets.{Words}
 use Rattle.sets.specs.Cut.{mostNames}
 use Rattle.model.specs.Lists.{lastMission, missions}
@@ -25,7 +26,7 @@ use Rattle.rows.specs.Rules.{sound}
 use Rattle.rows.proofs.Rules.{sound-length}
 use Rattle.rows.proofs.Words.{words-short}
 use Rattle.rows.proofs.Books.{list-names}
-use Rattle.listing.specs.Pieces.{lines, unlessOver}
+use Rattle.listing.specs.Pieces.{unlessOver}
 use Rattle.listing.proofs.Fitting.{fitting-few, fitting-some, piece-rest}
 use Rattle.promises.specs.Books.{bookOf}
 use Rattle.lines.specs.declared.requests.Kind.{Kind}

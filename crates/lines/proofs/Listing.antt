@@ -4,12 +4,11 @@ use mathlib.Core.Path.{_≡_, refl}
 use Rattle.letters.specs.Letters.{letter, byteOf}
 use Rattle.letters.specs.Words.{order}
 use Rattle.letters.specs.Names.{isName, isPrefix}
-use Rattle.letters.specs.Lists.{linesOf}
+use Rattle.letters.specs.Lists.{linesOf, lines}
 use Rattle.sets.specs.Sets.{member, keep, insert}
 use Rattle.sets.specs.Below.{over}
 use Rattle.sets.specs.Residuals.{after, residuals, longestWord, allResiduals, alike, distinct, states, need}
 use Rattle.model.specs.Run.{run}
-use Rattle.listing.specs.Pieces.{lines}
 use Rattle.printing.specs.Decimal.{digitsIn, decimal}
 use Rattle.lines.specs.Requests.{requestOf}
 use Rattle.lines.specs.Sessions.{prints}

@@ -7,13 +7,12 @@ use mathlib.Core.List.{List, [], _++_}
 use borrow.Author.Tests.{le-leb, eq-eqb, ne-eqb}
 use lib.Dec.{eqb}
 use lib.ListN.{length, drop}
-use Rattle.letters.specs.Lists.{nameEnd, linesOf}
+use Rattle.letters.specs.Lists.{nameEnd, linesOf, lines}
 use Rattle.sets.specs.Sets.{Words}
 use Rattle.sets.specs.Cut.{mostNames}
 use Rattle.rows.specs.Table.{Table, room}
 use Rattle.rows.specs.Words.{lists}
 use Rattle.rows.specs.Rules.{sound}
-use Rattle.listing.specs.Pieces.{lines}
 use Rattle.promises.specs.Books.{bookOf}
 use Rattle.lines.specs.declared.steps.Place.{Place}
 use Rattle.lines.specs.Requests.{requestOf}

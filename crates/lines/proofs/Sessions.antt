@@ -12,13 +12,12 @@ use borrow.Author.Tests.{le-leb, lt-leb, ne-eqb, not-false}
 use lib.ListN.{length, take, length-take, length-replicate, drop-of-length-le}
 use lib.Seq.{take-all}
 use Rattle.letters.specs.Words.{Word}
-use Rattle.letters.specs.Lists.{linesOf}
+use Rattle.letters.specs.Lists.{linesOf, lines}
 use Rattle.letters.proofs.Lines.{lines-at}
 use Rattle.sets.specs.Sets.{Words}
 use Rattle.rows.specs.Table.{Table, room}
 use Rattle.rows.specs.Words.{lists}
 use Rattle.rows.proofs.Zeros.{zeros-sound, zeros-lists}
-use Rattle.listing.specs.Pieces.{lines}
 use Rattle.promises.proofs.AnyCalls.{sound-book}
 use Rattle.lines.specs.declared.steps.Place.{Place}
 use Rattle.lines.specs.declared.steps.Stage.the-variants.{Over, Long, First, Line, Names}

@@ -7,11 +7,12 @@ use mathlib.Core.List.{List, [], _∷_}
 use borrow.Author.Tests.{eqb-true, eqb-false, leb-true, leb-false, not-true}
 use lib.Dec.{eqb, leb}
 use lib.ListN.{length, take}
+use Rattle.letters.specs.Lists.{lines}
 use Rattle.sets.specs.Sets.{Words}
 use Rattle.sets.specs.Cut.{mostNames}
 use Rattle.rows.specs.Table.{Table, lengthOk}
 use Rattle.listing.specs.declared.pieces.Piece.{Piece}
-use Rattle.listing.specs.Pieces.{lines, Written}
+use Rattle.listing.specs.Pieces.{Written}
 use Rattle.printing.proofs.Buffers.{overlaid-long, overlaid-take}
 use Rattle.lines.specs.declared.steps.Place.{Place}
 use Rattle.lines.specs.declared.steps.Stage.{Stage}

@@ -5,13 +5,12 @@ use mathlib.Core.Bool.{true, cond}
 use mathlib.Core.List.{List, [], _∷_, _++_}
 use lib.Dec.{leb}
 use lib.ListN.{length, take}
-use Rattle.letters.specs.Lists.{linesOf}
+use Rattle.letters.specs.Lists.{linesOf, lines}
 use Rattle.sets.specs.Sets.{Words}
 use Rattle.model.specs.Lists.{emptyLists}
 use Rattle.model.specs.Call.{Book, bookWith}
 use Rattle.model.specs.Run.{run}
 use Rattle.rows.specs.Table.{Table}
-use Rattle.listing.specs.Pieces.{lines}
 use Rattle.lines.specs.declared.requests.Request.{Request}
 use Rattle.lines.specs.declared.requests.Request.the-variants as request
 use Rattle.lines.specs.declared.steps.Place.{Place}

@@ -6,13 +6,12 @@ use mathlib.Core.Bool.{Bool, true, false, not, cond, _&&_}
 use mathlib.Core.List.{List, [], _∷_}
 use lib.Dec.{eqb, leb}
 use lib.ListN.{length, replicate}
-use Rattle.letters.specs.Lists.{nameAt, nameEnd}
+use Rattle.letters.specs.Lists.{nameAt, nameEnd, lines}
 use Rattle.sets.specs.Sets.{Words}
 use Rattle.sets.specs.Cut.{mostNames}
 use Rattle.model.specs.Call.{overlaid}
 use Rattle.examples.specs.Text.{bytes}
 use Rattle.rows.specs.Table.{Table, width, notRoom}
-use Rattle.listing.specs.Pieces.{lines}
 use Rattle.promises.specs.Promises.{replyTo, Tight}
 use Rattle.printing.specs.Printed.{spare}
 use Rattle.lines.specs.declared.requests.Request.{Request}

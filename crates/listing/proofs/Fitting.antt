@@ -10,8 +10,9 @@ use lib.ListN.{length, drop, length-append}
 use lib.Seq.{drop-drop}
 use Rattle.letters.specs.Each.{Each}
 use Rattle.letters.specs.Names.{longest}
+use Rattle.letters.specs.Lists.{line, lines}
 use Rattle.sets.specs.Sets.{Words}
-use Rattle.listing.specs.Pieces.{line, lines, fitting}
+use Rattle.listing.specs.Pieces.{fitting}
 use Rattle.listing.proofs.Lines.{fits-more}
 
 fitting-front : (size : ℕ) (l : Words) → l ≡ fitting size l ++ drop (length (fitting size l)) l

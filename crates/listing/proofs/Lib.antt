@@ -1,7 +1,6 @@
--- The laws that the listing's functions go by, and that a listing gives back what was loaded. Assumes nothing.
+-- The laws that the listing's functions go by. Assumes nothing.
 pub mod Lines
 pub mod Steps
 pub mod Spelling
 pub mod Listed
 pub mod Fitting
-pub mod Loaded

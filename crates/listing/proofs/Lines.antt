@@ -12,10 +12,11 @@ use lib.ListN.{length, take, drop, set, length-append, length-map, drop-of-lengt
 use lib.Seq.{drop-cons, length-take-le}
 use Rattle.letters.specs.Letters.{lineEnd, byteOf}
 use Rattle.letters.specs.Words.{Word, bytesOf}
+use Rattle.letters.specs.Lists.{line, lines}
 use Rattle.sets.specs.Sets.{Words}
 use Rattle.model.specs.Lists.{nthOf}
 use Rattle.model.specs.Call.{overlaid}
-use Rattle.listing.specs.Pieces.{line, lines, fitting, lineIn, Written}
+use Rattle.listing.specs.Pieces.{fitting, lineIn, Written}
 use Rattle.printing.proofs.Buffers.{Front, front-none, front-overlaid, overlaid-take, lent, back, overlaid-wrote, wrote-byte}
 use Rattle.printing.proofs.Buffers.{length-lent, lent-back, lent-unwritten, front-lent, take-lent}
 

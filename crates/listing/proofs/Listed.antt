@@ -5,9 +5,10 @@ use mathlib.Core.List.{List, []}
 use borrow.Author.Tests.{le-leb, lt-leb}
 use lib.ListN.{length, drop}
 use lib.Seq.{drop-nil}
+use Rattle.letters.specs.Lists.{lines}
 use Rattle.sets.specs.Sets.{Words}
 use Rattle.sets.specs.Cut.{mostNames}
-use Rattle.listing.specs.Pieces.{lines, fitting, unlessOver, Written}
+use Rattle.listing.specs.Pieces.{fitting, unlessOver, Written}
 
 -- of no names nothing is written
 pub nothing-written : (n : ℕ) {l : Words} (buffer : List ℕ) → l ≡ []

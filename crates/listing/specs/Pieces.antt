@@ -12,15 +12,6 @@ use Rattle.sets.specs.Cut.{mostNames}
 use Rattle.model.specs.Call.{overlaid}
 use Rattle.listing.specs.declared.pieces.Piece.{Piece}
 
--- "each name followed by 0x0A"
-abbrev pub line : Word → List ℕ
-line w = bytesOf w ++ lineEnd ∷ []
-
--- one line after another
-unfoldable pub lines : Words → List ℕ
-lines [] = []
-lines (w ∷ l) = line w ++ lines l
-
 -- the first names of the list, as many as fit whole into so many bytes
 unfoldable pub fitting : ℕ → Words → Words
 fitting size [] = []

@@ -1,7 +1,8 @@
--- "Of those that apply to a call, the lowest is given, and none when none applies": a call's refusals stand in rising order, so the first that
--- applies is the lowest. That they do is one test that computes, for each call. Assumes nothing.
+-- The first refusal of a call that applies is given, and 0 where none applies: every refusal has a number above 0. "Of those that apply to a call,
+-- the lowest is given": where a call's refusals stand in rising order the first is the lowest. That they do, and that they are numbered, is a
+-- test that computes, for each call. Assumes nothing.
 use Prim.Native.Nat.{ℕ, _≤_, _<_}
-use mathlib.Core.Path.{_≡_, refl, sym, _∙_}
+use mathlib.Core.Path.{_≡_, refl, sym, _∙_, ap}
 use mathlib.Core.Bool.{Bool, true, false, cond, not, _&&_, false≢true, and-eq-true-iff}
 use mathlib.Core.Logic.{_⊎_, inl, inr}
 use mathlib.Core.List.{List, [], _∷_, _++_}
@@ -9,42 +10,86 @@ use native.Mathlib.Omega.{arith}
 use borrow.Author.Tests.{leb-true, leb-false, lt-ltb, le-ltb}
 use lib.Dec.{leb, ltb}
 use Rattle.letters.specs.Each.{Each}
-use Rattle.sets.proofs.Membership.{In, here, there, nil-in, cons-in}
+use Rattle.sets.proofs.Membership.{In, nil-in, cons-in, each-in}
 use Rattle.model.specs.Lists.{lastMission, missions}
 use Rattle.model.specs.Call.{Call, Book}
-use Rattle.model.specs.Call.Call.{empty, check, ask, next, add, remove, clear, load, combine, count, rank, nth, used}
+use Rattle.model.specs.Call.Call.{empty, check, ask, next, add, remove, clear, load, loadTwo, combine, count, rank, nth, write, used}
 use Rattle.model.specs.Refusals.{Refusal, given}
-use Rattle.model.specs.Run.{rule}
+use Rattle.model.specs.Run.{rule, inRisingOrder}
 
 -- none of the refusals is numbered below n, and each is numbered no higher than those behind it
 abbrev orderly : ℕ → List Refusal → Bool
 orderly n [] = true
 orderly n (r ∷ rs) = leb n (r .number) && orderly (r .number) rs
 
-rule-orderly : (b : Book) (c : Call) → orderly 1 (rule b c .refusals) ≡ true
-rule-orderly b empty = refl
-rule-orderly b check = refl
-rule-orderly b (ask m name) = refl
-rule-orderly b (next m prefix) = refl
-rule-orderly b (add m name) = refl
-rule-orderly b (remove m name) = refl
-rule-orderly b (clear m) = refl
-rule-orderly b (load m bytes) = refl
-rule-orderly b (combine op x y z) = refl
-rule-orderly b (count m) = refl
-rule-orderly b (rank m name) = refl
-rule-orderly b (nth m n size) = refl
-rule-orderly b used = refl
+rule-orderly : (b : Book) (c : Call) → inRisingOrder c ≡ true → orderly 1 (rule b c .refusals) ≡ true
+rule-orderly b empty rising = refl
+rule-orderly b check rising = refl
+rule-orderly b (ask m name) rising = refl
+rule-orderly b (next m prefix) rising = refl
+rule-orderly b (add m name) rising = refl
+rule-orderly b (remove m name) rising = refl
+rule-orderly b (clear m) rising = refl
+rule-orderly b (load m bytes) rising = refl
+rule-orderly b (loadTwo m first second) rising = refl
+rule-orderly b (combine op x y z) rising = refl
+rule-orderly b (count m) rising = refl
+rule-orderly b (rank m name) rising = refl
+rule-orderly b (nth m n size) rising = refl
+rule-orderly b used rising = refl
+rule-orderly b (write m size) rising = absurd (false≢true rising)
 
-given-applies : (rs : List Refusal) → 0 < given rs → (r : Refusal) × In r rs × (r .applies ≡ true) × (r .number ≡ given rs)
-given-applies [] h = absurd (omega arith)
-given-applies (q ∷ rs) h = go (λ g. given-applies rs g) (q .applies) refl h
+-- each is numbered above 0
+abbrev numbered : List Refusal → Bool
+numbered [] = true
+numbered (r ∷ rs) = leb 1 (r .number) && numbered rs
+
+rule-numbered : (b : Book) (c : Call) → numbered (rule b c .refusals) ≡ true
+rule-numbered b empty = refl
+rule-numbered b check = refl
+rule-numbered b (ask m name) = refl
+rule-numbered b (next m prefix) = refl
+rule-numbered b (add m name) = refl
+rule-numbered b (remove m name) = refl
+rule-numbered b (clear m) = refl
+rule-numbered b (load m bytes) = refl
+rule-numbered b (loadTwo m first second) = refl
+rule-numbered b (combine op x y z) = refl
+rule-numbered b (count m) = refl
+rule-numbered b (rank m name) = refl
+rule-numbered b (nth m n size) = refl
+rule-numbered b (write m size) = refl
+rule-numbered b used = refl
+
+-- the refusal that is given: it applies, and none before it does
+pub record First (n : ℕ) (rs : List Refusal) : Type 0 where
+  pub before : List Refusal
+  pub refusal : Refusal
+  pub behind : List Refusal
+  pub place : rs ≡ before ++ refusal ∷ behind
+  pub earlier : Each (λ r. r .applies ≡ false) before
+  pub applies : refusal .applies ≡ true
+  pub number : refusal .number ≡ n
+
+first-of : (rs : List Refusal) → 0 < given rs → First (given rs) rs
+first-of [] h = absurd (omega arith)
+first-of (q ∷ rs) h = go (first-of rs) (q .applies) refl h
   where
-    go : (0 < given rs → (r : Refusal) × In r rs × (r .applies ≡ true) × (r .number ≡ given rs)) → (t : Bool) → q .applies ≡ t
-        → 0 < cond t (q .number) (given rs)
-        → (r : Refusal) × In r (q ∷ rs) × (r .applies ≡ true) × (r .number ≡ cond t (q .number) (given rs))
-    go rest true e g = (q, here refl, e, refl)
-    go rest false e g = let (r, i, f, n) = rest g in (r, there i, f, n)
+    go : (0 < given rs → First (given rs) rs) → (t : Bool) → q .applies ≡ t → 0 < cond t (q .number) (given rs)
+        → First (cond t (q .number) (given rs)) (q ∷ rs)
+    go rest true e g =
+        record { before = []; refusal = q; behind = rs; place = refl; earlier = tt; applies = e; number = refl }
+    go rest false e g =
+        let f = rest g in
+        record {
+          before = q ∷ f .before;
+          refusal = f .refusal;
+          behind = f .behind;
+          place = ap (λ (l : List Refusal). q ∷ l) (f .place);
+          earlier = (e, f .earlier);
+          applies = f .applies;
+          number = f .number;
+        }
 
 given-lowest : (n : ℕ) (rs : List Refusal) → orderly n rs ≡ true → (r : Refusal) → In r rs → r .applies ≡ true
     → (n ≤ given rs) × (given rs ≤ r .number)
@@ -60,18 +105,6 @@ given-lowest n (q ∷ rs) o r i f =
     go h rest (inr j) true a = let below = rest j in (h, omega arith)
     go h rest (inr j) false a = let below = rest j in (omega arith, below .1)
 
--- the number is that of a refusal that applies, and of no lower one; 0 where none applies
-pub record Lowest (n : ℕ) (rs : List Refusal) : Type 0 where
-  pub applies : 0 < n → (r : Refusal) × In r rs × (r .applies ≡ true) × (r .number ≡ n)
-  pub lowest : (r : Refusal) → In r rs → r .applies ≡ true → (0 < n) × (n ≤ r .number)
-
-pub lowest-given : (b : Book) (c : Call) → Lowest (given (rule b c .refusals)) (rule b c .refusals)
-lowest-given b c =
-    record {
-      applies = given-applies (rule b c .refusals);
-      lowest = given-lowest 1 (rule b c .refusals) (rule-orderly b c);
-    }
-
 -- where none is given, none applies
 pub given-none : (rs : List Refusal) → Each (λ r. r .applies ≡ true → 0 < r .number) rs → given rs ≡ 0 → Each (λ r. r .applies ≡ false) rs
 given-none [] numbered none = tt
@@ -81,6 +114,35 @@ given-none (r ∷ rs) (some, numbered) none = go (given-none rs numbered) (r .ap
         → Each (λ r. r .applies ≡ false) (r ∷ rs)
     go rest true e d = absurd (omega (arith, some e))
     go rest false e d = (e, rest d)
+
+each-numbered : (rs : List Refusal) → numbered rs ≡ true → Each (λ r. r .applies ≡ true → 0 < r .number) rs
+each-numbered [] e = tt
+each-numbered (r ∷ rs) e =
+    let (one, more) = and-eq-true-iff (leb 1 (r .number)) (numbered rs) .0 e in
+    ((λ _. leb-true 1 (r .number) one), each-numbered rs more)
+
+-- of any call: the first that applies is given, and 0 where none does
+pub record FirstGiven (n : ℕ) (rs : List Refusal) : Type 0 where
+  pub none : n ≡ 0 → Each (λ r. r .applies ≡ false) rs
+  pub first : 0 < n → First n rs
+
+pub first-given : (b : Book) (c : Call) → FirstGiven (given (rule b c .refusals)) (rule b c .refusals)
+first-given b c =
+    let rs = rule b c .refusals in
+    record { none = given-none rs (each-numbered rs (rule-numbered b c)); first = first-of rs }
+
+-- where nothing refuses a call, none of its refusals applies
+pub none-applies : (b : Book) (c : Call) (r : Refusal) → In r (rule b c .refusals) → given (rule b c .refusals) ≡ 0 → r .applies ≡ false
+none-applies b c r i none = each-in (λ r. r .applies ≡ false) (first-given b c .none none) i
+
+-- of a call whose refusals rise: the number is that of a refusal that applies, and of no lower one
+pub record Lowest (n : ℕ) (rs : List Refusal) : Type 0 where
+  pub given : FirstGiven n rs
+  pub lowest : (r : Refusal) → In r rs → r .applies ≡ true → (0 < n) × (n ≤ r .number)
+
+pub lowest-given : (b : Book) (c : Call) → inRisingOrder c ≡ true → Lowest (given (rule b c .refusals)) (rule b c .refusals)
+lowest-given b c rising =
+    record { given = first-given b c; lowest = given-lowest 1 (rule b c .refusals) (rule-orderly b c rising) }
 
 -- what the first ones give is given, whatever stands behind them
 pub given-first : (rs more : List Refusal) → 0 < given rs → given (rs ++ more) ≡ given rs

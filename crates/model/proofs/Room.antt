@@ -1,7 +1,7 @@
 -- Room refuses a change exactly when the fewest states that the lists after it need are more than the room. Where nothing but room refuses a
 -- call, what is given is what 11 gives, and 11 counts the sets that are left of the lists. That count is the fewest states of an automaton
 -- because the lists that the call would leave are plain sets: one of them is replaced, by a list with a name on it or off it, by none, by the
--- names of a list for load, or by two lists combined, and each of these is a plain set of names. Assumes nothing.
+-- names of one or two lists for load, or by two lists combined, and each of these is a plain set of names. Assumes nothing.
 use Prim.Native.Nat.{ℕ, zero, suc, _≤_, _<_}
 use native.Mathlib.Omega.{arith}
 use native.Mathlib.Decide.{ℕ-discrete}
@@ -18,16 +18,16 @@ use Rattle.letters.specs.Names.{isName}
 use Rattle.letters.specs.Lists.{linesOf, namesOf, isList}
 use Rattle.letters.proofs.Words.{name-parts, name-bytes}
 use Rattle.letters.proofs.Lines.{names-each, list-parts}
-use Rattle.sets.specs.Sets.{Words, Filled, Plain}
+use Rattle.sets.specs.Sets.{Words, Filled, Plain, both}
 use Rattle.sets.specs.Residuals.{states, need}
 use Rattle.sets.specs.Automata.{Fewest}
-use Rattle.sets.proofs.Sets.{rises-rising}
+use Rattle.sets.proofs.Sets.{rises-rising, plain-both}
 use Rattle.sets.proofs.Membership.{In}
 use Rattle.sets.proofs.States.{list-in-states, after-in-states, states-all}
 use Rattle.sets.proofs.Fewest.{need-fewest, fewest-one, need-within}
 use Rattle.model.specs.Lists.{missions, listOf, replace, SixteenSets}
 use Rattle.model.specs.Call.{Call, Book, Outcome}
-use Rattle.model.specs.Call.Call.{empty, check, ask, next, add, remove, clear, load, combine, count, rank, nth, used}
+use Rattle.model.specs.Call.Call.{empty, check, ask, next, add, remove, clear, load, loadTwo, combine, count, rank, nth, write, used}
 use Rattle.model.specs.Refusals.{Refusal, given, noRoom}
 use Rattle.model.specs.Rules.{withName, combined}
 use Rattle.model.specs.Run.{rule, refused, run}
@@ -51,6 +51,16 @@ name-word : (name : List ℕ) → isName name ≡ true → Name (wordOf name)
 name-word name e =
     let (some, short, spelled) = name-parts name e in
     name-bytes (wordOf name) (rw length-map some) (rw length-map short) spelled
+
+list-for-load : (bytes : List ℕ) → isList bytes ≡ true → Plain (namesOf bytes) × Each Name (namesOf bytes)
+list-for-load bytes e =
+    let (short, ended, named, rising) = list-parts bytes e in (
+      record {
+        rising = rises-rising (namesOf bytes) rising;
+        spelled = names-each Spelled (λ name h. name-parts name h .2) (linesOf bytes) named;
+      },
+      names-each Name name-word (linesOf bytes) named,
+    )
 
 empty-each : (P : Words → Type 0) (n : ℕ) → P [] → Each P (replicate n [])
 empty-each P zero p = tt
@@ -78,14 +88,15 @@ module _ {ls : List Words} (sets : SixteenSets ls) where
       (with-name-each Name on (wordOf name) (listOf ls m) (name-word name e) (list-names m))
 
   loaded-sets : (m : ℕ) (bytes : List ℕ) → isList bytes ≡ true → SixteenSets (replace ls m (namesOf bytes))
-  loaded-sets m bytes e =
-      let (short, ended, named, rising) = list-parts bytes e in
-      let plain : Plain (namesOf bytes) =
-      record {
-        rising = rises-rising (namesOf bytes) rising;
-        spelled = names-each Spelled (λ name h. name-parts name h .2) (linesOf bytes) named;
-      } in
-      replace-sets m (namesOf bytes) plain (names-each Name name-word (linesOf bytes) named)
+  loaded-sets m bytes e = replace-sets m (namesOf bytes) (list-for-load bytes e .0) (list-for-load bytes e .1)
+
+  loaded-two-sets : (m : ℕ) (first second : List ℕ) → isList first ≡ true → isList second ≡ true
+      → SixteenSets (replace ls m (both (namesOf first) (namesOf second)))
+  loaded-two-sets m first second d e =
+      let (plain, names) = list-for-load first d in
+      let (plain2, names2) = list-for-load second e in
+      replace-sets m (both (namesOf first) (namesOf second)) (plain-both (namesOf first) (namesOf second) plain plain2)
+      (combined-each Name 1 (namesOf first) (namesOf second) names names2)
 
   combined-sets : (op x y z : ℕ) → SixteenSets (replace ls z (combined op (listOf ls x) (listOf ls y)))
   combined-sets op x y z =
@@ -100,6 +111,9 @@ after-sets b (add m name) sets only = with-name-sets sets true m name (not-false
 after-sets b (remove m name) sets only = with-name-sets sets false m name (not-false (isName name) (only .1 .1 .0 (omega arith)))
 after-sets b (clear m) sets only = replace-sets sets m [] none-plain tt
 after-sets b (load m bytes) sets only = loaded-sets sets m bytes (not-false (isList bytes) (only .1 .1 .0 (omega arith)))
+after-sets b (loadTwo m first second) sets only =
+    let (one, two) = and-eq-true-iff (isList first) (isList second) .0 (not-false (isList first && isList second) (only .1 .1 .0 (omega arith))) in
+    loaded-two-sets sets m first second one two
 after-sets b (combine op x y z) sets only = combined-sets sets op x y z
 after-sets b check sets only = sets
 after-sets b (ask m name) sets only = sets
@@ -107,6 +121,7 @@ after-sets b (next m prefix) sets only = sets
 after-sets b (count m) sets only = sets
 after-sets b (rank m name) sets only = sets
 after-sets b (nth m n size) sets only = sets
+after-sets b (write m size) sets only = sets
 after-sets b used sets only = sets
 
 -- ---- what is given where nothing but room refuses a change
@@ -152,6 +167,7 @@ only-room : (b : Book) (c : Call) → need (b .lists) ≤ b .room → isChange c
 only-room b (add m name) fits e only = given-last (rule b (add m name) .refusals) refl only
 only-room b (remove m name) fits e only = given-last (rule b (remove m name) .refusals) refl only
 only-room b (load m bytes) fits e only = given-last (rule b (load m bytes) .refusals) refl only
+only-room b (loadTwo m first second) fits e only = given-last (rule b (loadTwo m first second) .refusals) refl only
 only-room b (combine op x y z) fits e only = given-last (rule b (combine op x y z) .refusals) refl only
 -- clear is not refused for room, and needs none
 only-room b (clear m) fits e only =
@@ -164,6 +180,7 @@ only-room b (next m prefix) fits e only = absurd (false≢true e)
 only-room b (count m) fits e only = absurd (false≢true e)
 only-room b (rank m name) fits e only = absurd (false≢true e)
 only-room b (nth m n size) fits e only = absurd (false≢true e)
+only-room b (write m size) fits e only = absurd (false≢true e)
 only-room b used fits e only = absurd (false≢true e)
 
 pub room-exact : (b : Book) (c : Call) → SixteenSets (b .lists) → need (b .lists) ≤ b .room → isChange c ≡ true → OnlyRoom b c

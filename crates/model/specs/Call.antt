@@ -14,12 +14,16 @@ pub data Call : Type 0 where
   remove : ℕ → List ℕ → Call
   clear : ℕ → Call
   load : ℕ → List ℕ → Call
+  -- 02, wish 2: the mission, and the lists of two desks
+  loadTwo : ℕ → List ℕ → List ℕ → Call
   -- the operation, and the missions a, b and c
   combine : ℕ → ℕ → ℕ → ℕ → Call
   count : ℕ → Call
   rank : ℕ → List ℕ → Call
   -- the mission, n, and the number of bytes of the answer buffer
   nth : ℕ → ℕ → ℕ → Call
+  -- 02, wish 2: the mission, and the number of bytes of the answer buffer
+  write : ℕ → ℕ → Call
   used : Call
 
 -- what a call finds
@@ -34,8 +38,8 @@ pub record Book : Type 0 where
 abbrev pub bookWith : ℕ → List Words → Book
 bookWith room ls = record { lengthOk = true; sound = true; room = room; lists = ls }
 
--- "Each call answers a number and a value." ask and next answer a second value, nth writes bytes to the front of its buffer, and some calls change
--- the lists.
+-- "Each call answers a number and a value." ask and next answer a second value, nth and write put bytes at the front of their buffer, and some
+-- calls change the lists.
 pub record Outcome : Type 0 where
   pub number : ℕ
   pub value : ℕ

@@ -5,7 +5,7 @@ use mathlib.Core.List.{List, [], _∷_}
 use lib.Dec.{leb, ltb}
 use lib.ListN.{length}
 use Rattle.letters.specs.Names.{longest, isName, isPrefix}
-use Rattle.letters.specs.Lists.{isList}
+use Rattle.letters.specs.Lists.{longestList, isList}
 use Rattle.sets.specs.Sets.{Words}
 use Rattle.sets.specs.Residuals.{need}
 use Rattle.sets.specs.Cut.{mostNames}
@@ -17,7 +17,8 @@ pub record Refusal : Type 0 where
   pub number : ℕ
   pub applies : Bool
 
--- "Of those that apply to a call, the lowest is given, and none when none applies." Each call's refusals stand in rising order.
+-- "Of those that apply to a call, the lowest is given, and none when none applies." The refusals of 01's calls stand in rising order, so the
+-- first that applies is the lowest; those of a wish stand as the wish writes them, and the first is given also where the numbers do not rise.
 abbrev pub given : List Refusal → ℕ
 given [] = 0
 given (r ∷ rs) = cond (r .applies) (r .number) (given rs)
@@ -48,9 +49,20 @@ noPrefix bytes = record { number = 4; applies = not (isPrefix bytes) }
 abbrev pub noList : List ℕ → Refusal
 noList bytes = record { number = 5; applies = not (isList bytes) }
 
+-- 02, wish 2: "5 if either is no list", and "5 if over 65,535 bytes are needed"
+abbrev pub noTwoLists : List ℕ → List ℕ → Refusal
+noTwoLists first second = record { number = 5; applies = not (isList first && isList second) }
+
+abbrev pub overLong : List ℕ → Refusal
+overLong bytes = record { number = 5; applies = ltb longestList (length bytes) }
+
 -- 6: "answer buffer under 24 bytes"
 abbrev pub shortBuffer : ℕ → Refusal
 shortBuffer size = record { number = 6; applies = ltb size longest }
+
+-- 02, wish 2: "6 if the buffer is short" for these bytes
+abbrev pub shortFor : List ℕ → ℕ → Refusal
+shortFor bytes size = record { number = 6; applies = ltb size (length bytes) }
 
 -- 7: "book not sound"
 abbrev pub notSound : Book → Refusal

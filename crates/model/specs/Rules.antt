@@ -1,4 +1,4 @@
--- Each call: what refuses it, in rising order, and what it answers when done. Assumes nothing.
+-- Each call: what refuses it, in the order in which it is tested, and what it answers when done. Assumes nothing.
 use Prim.Native.Nat.{ℕ}
 use mathlib.Core.Bool.{Bool, not, cond, _&&_, _||_, Bool·beq}
 use mathlib.Core.List.{List, [], _∷_}
@@ -6,14 +6,15 @@ use lib.Dec.{eqb}
 use lib.ListN.{length}
 use Rattle.letters.specs.Letters.{letters}
 use Rattle.letters.specs.Words.{Word, wordOf, bytesOf}
-use Rattle.letters.specs.Lists.{namesOf}
+use Rattle.letters.specs.Lists.{namesOf, lines}
 use Rattle.letters.specs.LetterSet.{flag, sumOf, countOf}
 use Rattle.sets.specs.Sets.{Words, member, insert, delete, both, common, without}
 use Rattle.sets.specs.Residuals.{need}
 use Rattle.model.specs.Lists.{listOf, replace, emptyLists, hasNames, rankOf, nthOf, mayFollow}
 use Rattle.model.specs.Prefixes.{howFar}
 use Rattle.model.specs.Call.{Book, Outcome}
-use Rattle.model.specs.Refusals.{Refusal, badLength, badMission, badOperation, noName, noPrefix, noList, shortBuffer, notSound, notEmpty, tooMany, notUnder, noRoom}
+use Rattle.model.specs.Refusals.{Refusal, badLength, badMission, badOperation, noName, noPrefix, noList, noTwoLists, overLong, shortBuffer, shortFor}
+use Rattle.model.specs.Refusals.{notSound, notEmpty, tooMany, notUnder, noRoom}
 
 -- a call's refusals, and its outcome when none applies
 pub record Rule : Type 0 where
@@ -27,6 +28,10 @@ leaves after value = record { number = 0; value = value; second = 0; written = [
 -- a call that only answers a value
 abbrev pub answers : Book → ℕ → Outcome
 answers b value = leaves (b .lists) value
+
+-- a call that writes bytes to the front of its buffer, and answers a value
+abbrev pub puts : Book → List ℕ → ℕ → Outcome
+puts b bytes value = record { number = 0; value = value; second = 0; written = bytes; lists = b .lists }
 
 -- a call that only answers two values
 abbrev pub answersBoth : Book → ℕ → ℕ → Outcome
@@ -90,6 +95,17 @@ loadRule b m bytes =
       done = leaves after (length (namesOf bytes));
     }
 
+-- 02, wish 2: "Planning and flight dynamics each send a rising list for the same mission. A call shall load both into an empty list as one."
+-- "The value is the number of different names." "Demand 2 reads the result as the union"
+abbrev pub loadTwoRule : Book → ℕ → List ℕ → List ℕ → Rule
+loadTwoRule b m first second =
+    let names = both (namesOf first) (namesOf second) in
+    let after = replace (b .lists) m names in
+    record {
+      refusals = badLength b ∷ badMission m ∷ noTwoLists first second ∷ notSound b ∷ notEmpty b m ∷ noRoom b after ∷ [];
+      done = leaves after (length names);
+    }
+
 -- "1 both together, 2 common names, 3 names of a that b has not"
 abbrev pub combined : ℕ → Words → Words → Words
 combined op k l = cond (eqb op 1) (both k l) (cond (eqb op 2) (common k l) (without k l))
@@ -139,14 +155,17 @@ nthRule b m n size =
     let w = nthOf n (listOf (b .lists) m) in
     record {
       refusals = badLength b ∷ badMission m ∷ shortBuffer size ∷ notSound b ∷ tooMany b m ∷ notUnder b m n ∷ [];
-      done =
-          record {
-            number = 0;
-            value = length w;
-            second = 0;
-            written = bytesOf w;
-            lists = b .lists;
-          };
+      done = puts b (bytesOf w) (length w);
+    }
+
+-- 02, wish 2: "A second call writes a mission's list to the front of a lent buffer as bytes that load takes back; its value is the number of
+-- bytes." "writing, 1, 2, 7, then 5 if over 65,535 bytes are needed, 6 if the buffer is short"
+abbrev pub writeRule : Book → ℕ → ℕ → Rule
+writeRule b m size =
+    let bytes = lines (listOf (b .lists) m) in
+    record {
+      refusals = badLength b ∷ badMission m ∷ notSound b ∷ overLong bytes ∷ shortFor bytes size ∷ [];
+      done = puts b bytes (length bytes);
     }
 
 -- "used: rows in use", which is the fewest states of the sixteen lists (demand 3)

@@ -4,7 +4,7 @@ use mathlib.Core.Path.{_≡_, refl, sym, _∙_, ap}
 use mathlib.Core.Bool.{Bool, true, false, false≢true}
 use mathlib.Core.List.{[]}
 use Rattle.model.specs.Call.{Call, Outcome}
-use Rattle.model.specs.Call.Call.{empty, check, ask, next, add, remove, clear, load, combine, count, rank, nth, used}
+use Rattle.model.specs.Call.Call.{empty, check, ask, next, add, remove, clear, load, loadTwo, combine, count, rank, nth, write, used}
 use Rattle.model.specs.Run.{rule, refused, run}
 use Rattle.rows.specs.Table.{Table}
 use Rattle.answers.specs.declared.cases.Refusal.{Refusal}
@@ -18,6 +18,7 @@ use Rattle.promises.proofs.Outcomes.{ruled-either}
 -- is the call lent an answer buffer?
 abbrev pub hasBuffer : Call → Bool
 hasBuffer (nth m n size) = true
+hasBuffer (write m size) = true
 hasBuffer empty = false
 hasBuffer check = false
 hasBuffer (ask m name) = false
@@ -26,6 +27,7 @@ hasBuffer (add m name) = false
 hasBuffer (remove m name) = false
 hasBuffer (clear m) = false
 hasBuffer (load m list) = false
+hasBuffer (loadTwo m first second) = false
 hasBuffer (combine op a b c) = false
 hasBuffer (count m) = false
 hasBuffer (rank m name) = false
@@ -37,6 +39,7 @@ Unwritten o = o .written ≡ []
 unwritten : (t : Table) (call : Call) → hasBuffer call ≡ false → outcomeOf t call .written ≡ []
 unfolding run
 unwritten t (nth m n size) none = absurd (false≢true (sym none))
+unwritten t (write m size) none = absurd (false≢true (sym none))
 unwritten t empty none = ruled-either Unwritten (bookOf t) (rule (bookOf t) empty) (λ n. refl) refl
 unwritten t check none = ruled-either Unwritten (bookOf t) (rule (bookOf t) check) (λ n. refl) refl
 unwritten t (ask m name) none = ruled-either Unwritten (bookOf t) (askWalk t m name) (λ n. refl) refl
@@ -45,6 +48,8 @@ unwritten t (add m name) none = ruled-either Unwritten (bookOf t) (rule (bookOf 
 unwritten t (remove m name) none = ruled-either Unwritten (bookOf t) (rule (bookOf t) (remove m name)) (λ n. refl) refl
 unwritten t (clear m) none = ruled-either Unwritten (bookOf t) (rule (bookOf t) (clear m)) (λ n. refl) refl
 unwritten t (load m list) none = ruled-either Unwritten (bookOf t) (rule (bookOf t) (load m list)) (λ n. refl) refl
+unwritten t (loadTwo m first second) none =
+    ruled-either Unwritten (bookOf t) (rule (bookOf t) (loadTwo m first second)) (λ n. refl) refl
 unwritten t (combine op a b c) none = ruled-either Unwritten (bookOf t) (rule (bookOf t) (combine op a b c)) (λ n. refl) refl
 unwritten t (count m) none = ruled-either Unwritten (bookOf t) (rule (bookOf t) (count m)) (λ n. refl) refl
 unwritten t (rank m name) none = ruled-either Unwritten (bookOf t) (rule (bookOf t) (rank m name)) (λ n. refl) refl

@@ -8,7 +8,7 @@ use mathlib.Core.Bool.{cond}
 use lib.ListN.{length, replicate}
 use Rattle.sets.proofs.Membership.{In, here, there}
 use Rattle.model.specs.Call.{Call, Book, Outcome}
-use Rattle.model.specs.Call.Call.{empty, check, ask, next, add, remove, clear, load, combine, count, rank, nth, used}
+use Rattle.model.specs.Call.Call.{empty, check, ask, next, add, remove, clear, load, loadTwo, combine, count, rank, nth, write, used}
 use Rattle.model.specs.Refusals.{given, notSound}
 use Rattle.model.specs.Rules.{Rule}
 use Rattle.model.specs.Run.{rule, refused, outcome, ruled, run}
@@ -39,10 +39,12 @@ refused-outcome t (add m name) = ruled-refuses (bookOf t) (rule (bookOf t) (add 
 refused-outcome t (remove m name) = ruled-refuses (bookOf t) (rule (bookOf t) (remove m name)) refl
 refused-outcome t (clear m) = ruled-refuses (bookOf t) (rule (bookOf t) (clear m)) refl
 refused-outcome t (load m list) = ruled-refuses (bookOf t) (rule (bookOf t) (load m list)) refl
+refused-outcome t (loadTwo m first second) = ruled-refuses (bookOf t) (rule (bookOf t) (loadTwo m first second)) refl
 refused-outcome t (combine op a b c) = ruled-refuses (bookOf t) (rule (bookOf t) (combine op a b c)) refl
 refused-outcome t (count m) = ruled-refuses (bookOf t) (rule (bookOf t) (count m)) refl
 refused-outcome t (rank m name) = ruled-refuses (bookOf t) (rule (bookOf t) (rank m name)) refl
 refused-outcome t (nth m n size) = ruled-refuses (bookOf t) (rule (bookOf t) (nth m n size)) refl
+refused-outcome t (write m size) = ruled-refuses (bookOf t) (rule (bookOf t) (write m size)) refl
 refused-outcome t used = ruled-refuses (bookOf t) (rule (bookOf t) used) refl
 
 -- a call that only reads: it leaves the table, and the lists
@@ -79,10 +81,13 @@ kind (add m name) = changing (add m name) (λ t after p. p) (λ b. there (there 
 kind (remove m name) = changing (remove m name) (λ t after p. p) (λ b. there (there (there (here refl)))) (λ t. refl)
 kind (clear m) = changing (clear m) (λ t after p. p) (λ b. there (there (here refl))) (λ t. refl)
 kind (load m list) = changing (load m list) (λ t after p. p) (λ b. there (there (there (here refl)))) (λ t. refl)
+kind (loadTwo m first second) =
+    changing (loadTwo m first second) (λ t after p. p) (λ b. there (there (there (here refl)))) (λ t. refl)
 kind (combine op x y z) = changing (combine op x y z) (λ t after p. p) (λ b. there (there (there (there (there (here refl)))))) (λ t. refl)
 kind (count m) = reading (count m) (λ t after p. p) (λ b. refl)
 kind (rank m name) = reading (rank m name) (λ t after p. p) (λ b. refl)
 kind (nth m n size) = reading (nth m n size) (λ t after p. p) (λ b. refl)
+kind (write m size) = reading (write m size) (λ t after p. p) (λ b. refl)
 kind used = reading used (λ t after p. p) (λ b. refl)
 
 -- the table that empty leaves

@@ -15,10 +15,11 @@ use Rattle.letters.proofs.Words.{name-parts, prefix-parts}
 use Rattle.letters.proofs.LetterSet.{sum-agree, count-agree}
 use Rattle.sets.proofs.Membership.{here, there}
 use Rattle.model.specs.Call.{Book, Call}
-use Rattle.model.specs.Call.Call.{empty, check, ask, next, add, remove, clear, load, combine, count, rank, nth, used}
+use Rattle.model.specs.Call.Call.{empty, check, ask, next, add, remove, clear, load, loadTwo, combine, count, rank, nth, write, used}
 use Rattle.model.specs.Refusals.{given, noName, noPrefix}
 use Rattle.model.specs.Rules.{Rule, askRule, nextRule}
 use Rattle.model.specs.Run.{ruled, run}
+use Rattle.model.proofs.Refusals.{none-applies}
 use Rattle.model.proofs.Changes.{done-sound}
 use Rattle.rows.specs.Table.{Table, lengthOk}
 use Rattle.rows.specs.Rules.{sound}
@@ -29,7 +30,7 @@ use Rattle.answers.specs.Replies.{replyOf}
 use Rattle.promises.specs.Books.{bookOf}
 use Rattle.promises.specs.Walks.{askWalk, nextWalk}
 use Rattle.promises.specs.Promises.{outcomeOf, Leaves, Becomes, Promised, Same, Tight}
-use Rattle.promises.proofs.Walks.{same-outcome, none-applies, mission-below}
+use Rattle.promises.proofs.Walks.{same-outcome, mission-below}
 use Rattle.promises.proofs.Outcomes.{Kind, kind, emptied}
 use Rattle.promises.proofs.Outcomes.Kind.{empties, reads, changes}
 use Rattle.promises.proofs.Nothing.{nothing-changed}
@@ -79,10 +80,12 @@ module _ (t t′ : Table) (by : Renumbered t t′) where
   outcome-same (remove m name) = rw same-book
   outcome-same (clear m) = rw same-book
   outcome-same (load m list) = rw same-book
+  outcome-same (loadTwo m first second) = rw same-book
   outcome-same (combine op a b c) = rw same-book
   outcome-same (count m) = rw same-book
   outcome-same (rank m name) = rw same-book
   outcome-same (nth m n size) = rw same-book
+  outcome-same (write m size) = rw same-book
   outcome-same used = rw same-book
 
   module _ (u u′ : Table) (call : Call) (p : Leaves t u call) (q : Leaves t′ u′ call) where

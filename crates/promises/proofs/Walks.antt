@@ -4,20 +4,20 @@
 use Prim.Native.Nat.{ℕ, zero, suc, _<_}
 use native.Mathlib.Omega.{arith}
 use mathlib.Core.Path.{_≡_, refl}
-use mathlib.Core.Bool.{true, false}
+use mathlib.Core.Bool.{true}
 use mathlib.Core.List.{List}
 use borrow.Author.Tests.{ltb-false, not-false}
 use Rattle.letters.specs.Words.{wordOf}
 use Rattle.letters.specs.Names.{isName, isPrefix}
 use Rattle.letters.proofs.Words.{name-parts, prefix-parts}
 use Rattle.letters.proofs.LetterSet.{sum-agree, count-agree}
-use Rattle.sets.proofs.Membership.{In, here, there, fails}
+use Rattle.sets.proofs.Membership.{In, here, there}
 use Rattle.model.specs.Lists.{lastMission, missions}
 use Rattle.model.specs.Call.{Book, Call, Outcome}
-use Rattle.model.specs.Call.Call.{empty, check, ask, next, add, remove, clear, load, combine, count, rank, nth, used}
-use Rattle.model.specs.Refusals.{Refusal, given, badMission, noName, noPrefix}
+use Rattle.model.specs.Call.Call.{empty, check, ask, next, add, remove, clear, load, loadTwo, combine, count, rank, nth, write, used}
+use Rattle.model.specs.Refusals.{given, badMission, noName, noPrefix}
 use Rattle.model.specs.Run.{rule, outcome, ruled, run}
-use Rattle.model.proofs.Refusals.{lowest-given}
+use Rattle.model.proofs.Refusals.{none-applies}
 use Rattle.rows.specs.Table.{Table}
 use Rattle.rows.specs.Rules.{sound}
 use Rattle.minimal.proofs.Theorems.{sound-ask, sound-far, sound-next}
@@ -29,10 +29,6 @@ use Rattle.promises.specs.Promises.{outcomeOf}
 pub same-outcome : (b : Book) (n : ℕ) (d e : Outcome) → (n ≡ 0 → d ≡ e) → outcome b n d ≡ outcome b n e
 same-outcome b zero d e f = f refl
 same-outcome b (suc n) d e f = refl
-
--- where nothing refuses a call, none of its refusals applies
-pub none-applies : (b : Book) (call : Call) (r : Refusal) → In r (rule b call .refusals) → given (rule b call .refusals) ≡ 0 → r .applies ≡ false
-none-applies b call r i none = fails (r .applies) (λ e. omega (arith, lowest-given b call .lowest r i e .0))
 
 pub mission-below : (b : Book) (call : Call) (m : ℕ) → In (badMission m) (rule b call .refusals) → given (rule b call .refusals) ≡ 0 → m < missions
 mission-below b call m i none = omega (arith, ltb-false lastMission m (none-applies b call (badMission m) i none))
@@ -74,8 +70,10 @@ sound-outcome t s (add m name) = refl
 sound-outcome t s (remove m name) = refl
 sound-outcome t s (clear m) = refl
 sound-outcome t s (load m list) = refl
+sound-outcome t s (loadTwo m first second) = refl
 sound-outcome t s (combine op a b c) = refl
 sound-outcome t s (count m) = refl
 sound-outcome t s (rank m name) = refl
 sound-outcome t s (nth m n size) = refl
+sound-outcome t s (write m size) = refl
 sound-outcome t s used = refl

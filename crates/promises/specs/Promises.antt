@@ -5,7 +5,7 @@ use mathlib.Core.Bool.{true, cond}
 use mathlib.Core.List.{List}
 use lib.ListN.{length, replicate}
 use Rattle.model.specs.Call.{Call, Outcome, overlaid}
-use Rattle.model.specs.Call.Call.{empty, check, ask, next, add, remove, clear, load, combine, count, rank, nth, used}
+use Rattle.model.specs.Call.Call.{empty, check, ask, next, add, remove, clear, load, loadTwo, combine, count, rank, nth, write, used}
 use Rattle.model.specs.Run.{rule, ruled, run}
 use Rattle.model.specs.Changes.{isChange}
 use Rattle.rows.specs.Table.{Table, lengthOk, room}
@@ -27,10 +27,12 @@ outcomeOf t (add m name) = run (bookOf t) (add m name)
 outcomeOf t (remove m name) = run (bookOf t) (remove m name)
 outcomeOf t (clear m) = run (bookOf t) (clear m)
 outcomeOf t (load m list) = run (bookOf t) (load m list)
+outcomeOf t (loadTwo m first second) = run (bookOf t) (loadTwo m first second)
 outcomeOf t (combine op a b c) = run (bookOf t) (combine op a b c)
 outcomeOf t (count m) = run (bookOf t) (count m)
 outcomeOf t (rank m name) = run (bookOf t) (rank m name)
 outcomeOf t (nth m n size) = run (bookOf t) (nth m n size)
+outcomeOf t (write m size) = run (bookOf t) (write m size)
 outcomeOf t used = run (bookOf t) used
 
 -- "Each call answers a number and a value."
@@ -58,6 +60,7 @@ Leaves t after (add m name) = Becomes t after (run (bookOf t) (add m name))
 Leaves t after (remove m name) = Becomes t after (run (bookOf t) (remove m name))
 Leaves t after (clear m) = Becomes t after (run (bookOf t) (clear m))
 Leaves t after (load m list) = Becomes t after (run (bookOf t) (load m list))
+Leaves t after (loadTwo m first second) = Becomes t after (run (bookOf t) (loadTwo m first second))
 Leaves t after (combine op a b c) = Becomes t after (run (bookOf t) (combine op a b c))
 Leaves t after check = after ≡ t
 Leaves t after (ask m name) = after ≡ t
@@ -65,6 +68,7 @@ Leaves t after (next m prefix) = after ≡ t
 Leaves t after (count m) = after ≡ t
 Leaves t after (rank m name) = after ≡ t
 Leaves t after (nth m n size) = after ≡ t
+Leaves t after (write m size) = after ≡ t
 Leaves t after used = after ≡ t
 
 -- "Each public function carries a promise that names number, value, table and buffers after the call, for all inputs and for refusals." What is

@@ -30,8 +30,8 @@ compared c =
     let at-test = c .before .before .before in
     let inv = at-test .before .loop .inv in
     inv .2
-    ∙ rises-more _ _ _ _ _ (inv .0) (inv .1) (at-test .loop-test .taken) (c .before .before .name-at .ensures)
-    (c .before .name-at2 .ensures)
+    ∙ rises-more _ _ _ _ _ (inv .0) (inv .1) (at-test .loop-test .taken) (c .before .before .name-at .ensures .0)
+    (c .before .name-at2 .ensures .0)
     ∙ rw (c .is-before .ensures)
 
 returns : tie.Need-returns Inv-loop μ-loop

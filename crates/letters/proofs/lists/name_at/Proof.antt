@@ -1,7 +1,8 @@
 -- `name_at` meets its promise: behind the list there is no name, and else the name is the part that ends where `name_end` says.
 -- Assumes nothing.
-use mathlib.Core.Path.{sym}
+use mathlib.Core.Path.{refl, sym}
 use native.Mathlib.Nat.{le-of-lt}
+use native.Mathlib.Omega.{arith}
 use borrow.Author.Needs.{needs}
 use Rattle.letters.proofs.Lines.{name-past, name-part, nameEnd-le}
 use Rattle.letters.proofs.lists.name_at.Statement.{statement}
@@ -17,7 +18,7 @@ part-result-end : tie.Need-part-result-end
 part-result-end c = search needs
 
 returns : tie.Need-returns
-returns c = sym (name-past _ _ (le-of-lt (c .before .if1 .taken)))
+returns c = (sym (name-past _ _ (le-of-lt (c .before .if1 .taken))), λ inside. absurd (omega arith))
 
 name-end-requires : tie.Need-name-end-requires
 name-end-requires c κs = search needs
@@ -32,7 +33,11 @@ part-result-end-2 : tie.Need-part-result-end-2
 part-result-end-2 c = rw (c .name-end .ensures) (nameEnd-le _ _ (c .before .if1 .left))
 
 returns-2 : tie.Need-returns-2
-returns-2 c = rw (c .before .name-end .ensures) (name-part _ _)
+returns-2 c =
+    rw (c .before .name-end .ensures) (
+      name-part _ _,
+      λ inside. record { block = search needs; offset = search needs; bytes = refl },
+    )
 
 pub name-at-spec : {M : Type 1} → statement M
 name-at-spec =

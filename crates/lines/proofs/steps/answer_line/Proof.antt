@@ -11,7 +11,7 @@ name-at-requires c κs = search needs
 answer-requires : tie.Need-answer-requires
 answer-requires c κs =
     let s = c .before .before .before .before .before .before .args in
-    rw (c .before .name-at .ensures) (omega (arith, nameEnd-le (s .input .now) (s .place .at) (omega arith)))
+    rw (c .before .name-at .ensures .0) (omega (arith, nameEnd-le (s .input .now) (s .place .at) (omega arith)))
 
 same-length : tie.Need-same-length
 same-length c = search needs
@@ -22,7 +22,7 @@ same-length-2 c = search needs
 returns : tie.Need-returns
 returns c =
     let answered = c .before .before .before .before in
-    let said = rw (answered .before .before .name-at .ensures) at (answered .answer .ensures) in
+    let said = rw (answered .before .before .name-at .ensures .0) at (answered .answer .ensures) in
     record { next = rw (said .long); buffer = said .buffer; table = said .table }
 
 pub answer-line-spec : {M : Type 1} → statement M

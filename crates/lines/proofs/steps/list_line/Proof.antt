@@ -30,7 +30,7 @@ returns : tie.Need-returns
 returns c =
     let followed = c .before .before .before .before .before in
     let s = start followed .args in
-    let piece = rw (followed .before .before .name-at .ensures) at (followed .follow .ensures) in
+    let piece = rw (followed .before .before .name-at .ensures .0) at (followed .follow .ensures) in
     rw (c .next-line .ensures) (none-done (s .t .now) (s .input .now) (s .place) (s .out .now) _ _ piece (c .before .if1 .taken))
 
 add-t9 : tie.Need-add-t9
@@ -48,7 +48,7 @@ returns-2 : tie.Need-returns-2
 returns-2 c =
     let followed = c .before .before .before .before .before in
     let s = start followed .args in
-    let piece = rw (followed .before .before .name-at .ensures) at (followed .follow .ensures) in
+    let piece = rw (followed .before .before .name-at .ensures .0) at (followed .follow .ensures) in
     some-done (s .t .now) (s .input .now) (s .place) (s .out .now) _ _ piece (c .before .if1 .left)
 
 pub list-line-spec : {M : Type 1} → statement M

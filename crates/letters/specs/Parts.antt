@@ -1,0 +1,12 @@
+-- A part of a lent slice. Assumes nothing.
+use Prim.Native.Nat.{ℕ, _+_, _-_}
+use mathlib.Core.Path.{_≡_}
+use mathlib.Core.List.{List}
+use denote.Ref.{RefT, now}
+use lib.ListN.{take, drop}
+
+-- the part of the slice from one place up to another: it stands there, and has the bytes there
+pub record Part (whole : RefT (List ℕ)) (start end : ℕ) (part : RefT (List ℕ)) : Type 0 where
+  pub block : part .ptr .0 ≡ whole .ptr .0
+  pub offset : part .ptr .1 ≡ whole .ptr .1 + start
+  pub bytes : now part ≡ take (end - start) (drop start (now whole))
