@@ -8,3 +8,4 @@ pub mod Names
 pub mod Combined
 pub mod Changes
 pub mod Room
+pub mod Loads

@@ -52,7 +52,7 @@ name-word name e =
     let (some, short, spelled) = name-parts name e in
     name-bytes (wordOf name) (rw length-map some) (rw length-map short) spelled
 
-list-for-load : (bytes : List ℕ) → isList bytes ≡ true → Plain (namesOf bytes) × Each Name (namesOf bytes)
+pub list-for-load : (bytes : List ℕ) → isList bytes ≡ true → Plain (namesOf bytes) × Each Name (namesOf bytes)
 list-for-load bytes e =
     let (short, ended, named, rising) = list-parts bytes e in (
       record {
@@ -67,10 +67,10 @@ empty-each P zero p = tt
 empty-each P (suc n) p = (p, empty-each P n p)
 
 module _ {ls : List Words} (sets : SixteenSets ls) where
-  list-plain : (m : ℕ) → Plain (listOf ls m)
+  pub list-plain : (m : ℕ) → Plain (listOf ls m)
   list-plain m = list-each Plain ls m (sets .plain) none-plain
 
-  list-names : (m : ℕ) → Each Name (listOf ls m)
+  pub list-names : (m : ℕ) → Each Name (listOf ls m)
   list-names m = list-each (Each Name) ls m (sets .names) tt
 
   replace-sets : (m : ℕ) (l : Words) → Plain l → Each Name l → SixteenSets (replace ls m l)

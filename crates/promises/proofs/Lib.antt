@@ -7,3 +7,4 @@ pub mod Tight
 pub mod AnyCalls
 pub mod Fewest
 pub mod Room
+pub mod WriteLoad

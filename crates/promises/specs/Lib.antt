@@ -3,3 +3,4 @@ pub mod Books
 pub mod Walks
 pub mod Promises
 pub mod Histories
+pub mod Again

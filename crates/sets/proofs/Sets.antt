@@ -5,7 +5,7 @@
 use Prim.Native.Nat.{Ordering, Ordering·lt, Ordering·eq, Ordering·gt}
 use mathlib.Core.Path.{_≡_, refl}
 use mathlib.Core.Bool.{Bool, true, false, not, cond, _&&_, _||_, false≢true}
-use mathlib.Core.Bool.{or-true, or-assoc, or-self-left, and-false, and-comm, and-or-distrib-left, and-eq-true-iff}
+use mathlib.Core.Bool.{or-true, or-false, or-assoc, or-self-left, and-false, and-comm, and-or-distrib-left, and-eq-true-iff}
 use mathlib.Core.List.{[], _∷_, _++_}
 use Rattle.letters.specs.Each.{Each}
 use Rattle.letters.specs.Words.{Word, Spelled, order, before, same}
@@ -122,6 +122,12 @@ rises-rising (u ∷ v ∷ ws) h =
     let r = rises-rising (v ∷ ws) (p .1) in
     (above-rising u v ws (p .0) r, r)
 
+pub rising-rises : (l : Words) → Rising l → rises l ≡ true
+unfolding rises
+rising-rises [] r = refl
+rising-rises (u ∷ []) r = refl
+rising-rises (u ∷ v ∷ ws) r = rw (r .0 .0, rising-rises (v ∷ ws) (r .1))
+
 pub rising-cond : (b : Bool) (v : Word) (l : Words) → (b ≡ true → Above v l) → Rising l → Rising (cond b (v ∷ l) l)
 rising-cond true v l h r = (h refl, r)
 rising-cond false v l h r = r
@@ -207,6 +213,13 @@ unfolding both
 plain-both [] l p q = q
 plain-both (v ∷ vs) l p q =
     plain-insert v (both vs l) (p .spelled .0) (plain-both vs l (record { rising = p .rising .1; spelled = p .spelled .1 }) q)
+
+-- with no other set it is the set itself
+pub both-alone : (l : Words) → Plain l → both l [] ≡ l
+unfolding member
+both-alone l p =
+    plain-ext (both l []) l (plain-both l [] p (record { rising = tt; spelled = tt })) p
+    (λ w spelled. rw (member-both w l []) (or-false (member w l)))
 
 pub plain-common : (k l : Words) → Plain k → Plain (common k l)
 unfolding common
