@@ -1,8 +1,8 @@
--- What load and combine come to on a sound book, by the model: refused 8 where the receiving list has names, and else done or refused 11 as the
+-- What the loads and combine come to on a sound book, by the model: refused 8 where the receiving list has names, and else done or refused 11 as the
 -- lists after the change fit. A value of 0 means no names, and then the table is the same. Assumes nothing.
-use Prim.Native.Nat.{ℕ, _≤_, _<_}
+use Prim.Native.Nat.{ℕ, _+_, _≤_, _<_}
 use native.Mathlib.Omega.{arith}
-use mathlib.Core.Path.{_≡_, refl, _∙_}
+use mathlib.Core.Path.{_≡_, refl, _∙_, ap, subst}
 use mathlib.Core.Bool.{Bool, true, false, cond, not, _||_, and-true}
 use mathlib.Core.List.{List, [], _∷_, _++_}
 use lib.Dec.{ltb}
@@ -14,17 +14,19 @@ use Rattle.letters.specs.Words.{Word}
 use Rattle.letters.specs.Lists.{longestList, linesOf, namesOf, isList}
 use Rattle.letters.proofs.Words.{name-parts}
 use Rattle.letters.proofs.Lines.{lines-few, names-each, list-parts}
-use Rattle.sets.specs.Sets.{Words, member}
-use Rattle.sets.proofs.Sets.{member-each}
+use Rattle.sets.specs.Sets.{Words, member, both}
+use Rattle.sets.proofs.Membership.{fails}
+use Rattle.sets.proofs.Sets.{member-each, member-both, both-few}
 use Rattle.model.specs.Lists.{lastMission, missions, listOf, replace, hasNames}
-use Rattle.model.specs.Call.{Call}
-use Rattle.model.specs.Call.Call.{load, combine}
+use Rattle.model.specs.Call.{Call, Outcome, overlaid}
+use Rattle.model.specs.Call.Call.{load, loadTwo, combine}
 use Rattle.model.specs.Refusals.{isOperation, given}
 use Rattle.model.specs.Rules.{leaves, combined}
 use Rattle.model.specs.Run.{rule, refused, run}
 use Rattle.model.proofs.Refusals.{mission-under}
 use Rattle.model.proofs.Changes.{run-ruled}
 use Rattle.model.proofs.Combined.{member-combined, chosen-none}
+use Rattle.model.proofs.Loads.{load-alone}
 use Rattle.rows.specs.Table.{Table, rowCount, lengthOk, start}
 use Rattle.rows.specs.Words.{words, lists}
 use Rattle.rows.specs.Rules.{sound}
@@ -37,9 +39,10 @@ use Rattle.growing.specs.Growing.{MadeRow, MadeFull}
 use Rattle.settling.specs.Settled.{fits, Startable, Settles}
 use Rattle.answers.specs.declared.cases.Refusal.the-variants.{Operation, NotEmpty, NoRoom}
 use Rattle.answers.specs.declared.cases.Answer.the-variants as answer
-use Rattle.answers.specs.Replies.{answerReply}
+use Rattle.answers.specs.declared.replies.Reply.{Reply}
+use Rattle.answers.specs.Replies.{answerReply, replyOf}
 use Rattle.promises.specs.Books.{bookOf}
-use Rattle.promises.specs.Promises.{Changes}
+use Rattle.promises.specs.Promises.{Becomes, Changes, Promised}
 use Rattle.admitting.specs.Admission.{ifFine, firstTests}
 use Rattle.admitting.proofs.Admitting.{first-begins}
 use Rattle.ending.specs.Ending.{settledAnswer}
@@ -82,40 +85,54 @@ module _ {t : Table} {m : ℕ} {call : Call} {l : Words} {v : ℕ} (fills : Fill
 
 -- "The empty word is no name", so it is not among the names of a list
 list-no-empty : (list : List ℕ) → isList list ≡ true → member [] (namesOf list) ≡ false
-list-no-empty list e = go (member [] (namesOf list)) refl
+list-no-empty list e = fails (member [] (namesOf list)) (λ m. omega (arith, member-each (λ w. 0 < length w) (namesOf list) some [] m))
   where
     some : Each (λ w. 0 < length w) (namesOf list)
     some = names-each (λ w. 0 < length w) (λ bytes h. rw length-map (name-parts bytes h .0)) (linesOf list) (list-parts list e .2)
 
-    go : (b : Bool) → member [] (namesOf list) ≡ b → b ≡ false
-    go true m = absurd (omega (arith, member-each (λ w. 0 < length w) (namesOf list) some [] m))
-    go false m = refl
+module _ (t : Table) (m : ℕ) (first second : List ℕ) (fine : Loadable t m first second) where
+  abbrev loaded : Words
+  loaded = both (namesOf first) (namesOf second)
 
-pub list-few : (list : List ℕ) → isList list ≡ true → length (namesOf list) ≤ longestList
-list-few list e = rw length-map (omega (arith, list-parts list e .0, lines-few list))
-
-module _ (t : Table) (m : ℕ) (list : List ℕ) (fine : Loadable t m list) where
-  pub load-not-empty : 0 < start t m → Changes t t (load m list) (answerReply (answer.Refused NotEmpty))
+  pub load-not-empty : 0 < start t m → Changes t t (loadTwo m first second) (answerReply (answer.Refused NotEmpty))
   load-not-empty some =
       let full = start-names t (sound-facts t (fine .sound) .tidy) m (fine .mission) some in
-      refused-changes t (load m list) NotEmpty
-      (run-ruled (bookOf t) (load m list)
-      ∙ rw (sound-length t (fine .sound), mission-under m (fine .mission), fine .listed, fine .sound, full))
+      refused-changes t (loadTwo m first second) NotEmpty
+      (run-ruled (bookOf t) (loadTwo m first second)
+      ∙ rw (sound-length t (fine .sound), mission-under m (fine .mission), fine .listed, fine .also, fine .sound, full))
 
-  pub load-fills : start t m ≡ 0 → Fills t m (load m list) (namesOf list) (length (namesOf list))
+  pub load-fills : start t m ≡ 0 → Fills t m (loadTwo m first second) loaded (length loaded)
   load-fills empty =
       record {
         sound = fine .sound;
         mission = fine .mission;
         empty = empty;
-        names = list-no-empty list (fine .listed);
-        nothing = none-or-some length (λ w l. omega arith) (namesOf list);
-        says = λ done e. run-ruled (bookOf t) (load m list)
-            ∙ rw (sound-length t (fine .sound), mission-under m (fine .mission), fine .listed, fine .sound, none) (fits-or-not t m (namesOf list) _ _ done e);
+        names = member-both [] (namesOf first) (namesOf second) ∙ rw (list-no-empty first (fine .listed), list-no-empty second (fine .also));
+        nothing = none-or-some length (λ w l. omega arith) loaded;
+        says = λ done e. run-ruled (bookOf t) (loadTwo m first second)
+            ∙ rw (sound-length t (fine .sound), mission-under m (fine .mission), fine .listed, fine .also, fine .sound, none)
+            (fits-or-not t m loaded _ _ done e);
       }
     where
       none : listOf (lists t) m ≡ []
       none = no-start t m (fine .mission) empty
+
+  -- no more names than bytes
+  pub loaded-few : length loaded ≤ longestList + longestList
+  loaded-few =
+      let all = rw (length-map, length-map) at (both-few (namesOf first) (namesOf second)) in
+      omega (arith, list-parts first (fine .listed) .0, list-parts second (fine .also) .0, lines-few first, lines-few second)
+
+-- a load of one list is the load of two of which the second is empty
+pub alone-promised : (t after : Table) (m : ℕ) (list : List ℕ) (reply : Reply) → Promised t after [] [] (loadTwo m list []) reply
+    → Promised t after [] [] (load m list) reply
+alone-promised t after m list reply p =
+    let same = load-alone (bookOf t) m list in
+    record {
+      answers = p .answers ∙ ap replyOf same;
+      buffer = p .buffer ∙ ap (λ (o : Outcome). overlaid (o .written) []) same;
+      table = subst (Becomes t after) same (p .table);
+    }
 
 -- ---- combine
 

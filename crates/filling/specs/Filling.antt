@@ -1,4 +1,4 @@
--- When load and combine are refused for nothing but 8, "receiving list not empty", or 11. Assumes nothing.
+-- When the loads and combine are refused for nothing but 8, "receiving list not empty", or 11. Assumes nothing.
 use Prim.Native.Nat.{ℕ, max, _<_}
 use mathlib.Core.Path.{_≡_}
 use mathlib.Core.Bool.{true}
@@ -9,10 +9,11 @@ use Rattle.model.specs.Refusals.{isOperation}
 use Rattle.rows.specs.Table.{Table}
 use Rattle.rows.specs.Rules.{sound}
 
-pub record Loadable (t : Table) (m : ℕ) (list : List ℕ) : Type 0 where
+pub record Loadable (t : Table) (m : ℕ) (first second : List ℕ) : Type 0 where
   pub sound : sound t ≡ true
   pub mission : m < missions
-  pub listed : isList list ≡ true
+  pub listed : isList first ≡ true
+  pub also : isList second ≡ true
 
 -- the greatest of three mission numbers: if it is a mission's, all are
 abbrev pub highest : ℕ → ℕ → ℕ → ℕ

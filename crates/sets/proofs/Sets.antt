@@ -2,11 +2,13 @@
 -- of letters, is a fact about each of its words: `member-..` reads it off a word, `members-..` puts it together, so that the operations keep
 -- it by their membership laws. Only `ext` needs lists that rise: the first words of two such lists with the same words are the same, since a
 -- word before the first one is not in the list. Whoever speaks of names, of residuals or of automata goes by these laws. Assumes nothing.
-use Prim.Native.Nat.{Ordering, Ordering·lt, Ordering·eq, Ordering·gt}
+use Prim.Native.Nat.{suc, _+_, _≤_, Ordering, Ordering·lt, Ordering·eq, Ordering·gt}
+use native.Mathlib.Omega.{arith}
 use mathlib.Core.Path.{_≡_, refl}
 use mathlib.Core.Bool.{Bool, true, false, not, cond, _&&_, _||_, false≢true}
 use mathlib.Core.Bool.{or-true, or-false, or-assoc, or-self-left, and-false, and-comm, and-or-distrib-left, and-eq-true-iff}
 use mathlib.Core.List.{[], _∷_, _++_}
+use lib.ListN.{length}
 use Rattle.letters.specs.Each.{Each}
 use Rattle.letters.specs.Words.{Word, Spelled, order, before, same}
 use Rattle.letters.specs.Lists.{rises}
@@ -213,6 +215,22 @@ unfolding both
 plain-both [] l p q = q
 plain-both (v ∷ vs) l p q =
     plain-insert v (both vs l) (p .spelled .0) (plain-both vs l (record { rising = p .rising .1; spelled = p .spelled .1 }) q)
+
+-- no more words than both have
+insert-few : (w : Word) (l : Words) → length (insert w l) ≤ suc (length l)
+unfolding insert
+insert-few w [] = omega arith
+insert-few w (v ∷ vs) = go (insert-few w vs) (order w v)
+  where
+    go : length (insert w vs) ≤ suc (length vs) → (o : Ordering) → length (put o w v vs (insert w vs)) ≤ suc (suc (length vs))
+    go few Ordering·lt = omega arith
+    go few Ordering·eq = omega arith
+    go few Ordering·gt = omega arith
+
+pub both-few : (k l : Words) → length (both k l) ≤ length k + length l
+unfolding both
+both-few [] l = omega arith
+both-few (v ∷ vs) l = omega (arith, insert-few v (both vs l), both-few vs l)
 
 -- with no other set it is the set itself
 pub both-alone : (l : Words) → Plain l → both l [] ≡ l
