@@ -8,7 +8,7 @@ ghost use mathlib.Core.Path.{_≡_};
 ghost use mathlib.Core.List.{[]};
 ghost use lib.ListN.{length};
 ghost use Rattle.answers.specs.Replies.{answerReply};
-ghost use Rattle.model.specs.Call.Call.{empty, check, ask, next, add, remove, clear, load, combine, count, rank, nth, used};
+ghost use Rattle.model.specs.Call.Call.{empty, check, ask, next, add, remove, clear, load, loadTwo, combine, count, rank, nth, write, used};
 ghost use Rattle.promises.specs.Promises.{Promised};
 ghost use Rattle.exports.specs.Packed.{packed, unpackedWith, unpacked, unpackedNext};
 
@@ -95,6 +95,13 @@ pub extern "C" fn book_load(table: &mut [u16], mission: u32, list: &[u8]) -> u64
 }
 
 #[no_mangle]
+pub extern "C" fn book_load_two<'a>(table: &mut [u16], mission: u32, first: &'a [u8], second: &'a [u8]) -> u64
+    ensures { λ r. ⌜ Promised (now (table .entry)) (now (table .exit)) [] [] (loadTwo mission (now (first .entry)) (now (second .entry))) (unpacked r) ⌝ }
+{
+    packed_answer(filling::load_two(table, mission, first, second))
+}
+
+#[no_mangle]
 pub extern "C" fn book_combine(table: &mut [u16], operation: u32, a: u32, b: u32, c: u32) -> u64
     ensures { λ r. ⌜ Promised (now (table .entry)) (now (table .exit)) [] [] (combine operation a b c) (unpacked r) ⌝ }
 {
@@ -120,6 +127,13 @@ pub extern "C" fn book_nth(table: &[u16], mission: u32, n: u32, buffer: &mut [u8
     ensures { λ r. ⌜ Promised (now (table .entry)) (now (table .entry)) (now (buffer .entry)) (now (buffer .exit)) (nth mission n (length (now (buffer .entry)))) (unpacked r) ⌝ }
 {
     packed_answer(ranking::nth(table, mission, n, buffer))
+}
+
+#[no_mangle]
+pub extern "C" fn book_write(table: &[u16], mission: u32, buffer: &mut [u8]) -> u64
+    ensures { λ r. ⌜ Promised (now (table .entry)) (now (table .entry)) (now (buffer .entry)) (now (buffer .exit)) (write mission (length (now (buffer .entry)))) (unpacked r) ⌝ }
+{
+    packed_answer(ranking::write(table, mission, buffer))
 }
 
 #[no_mangle]

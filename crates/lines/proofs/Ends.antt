@@ -1,39 +1,30 @@
--- Steps end: in every step that is not over one line less is left, or one name less of its line. Assumes nothing.
-use Prim.Native.Nat.{ℕ, suc, _+_, _*_, _-_, _<_}
+-- Steps end: each step that is not over leaves a line less. Assumes nothing.
+use Prim.Native.Nat.{ℕ, suc, _+_, _-_, _<_}
 use native.Mathlib.Omega.{arith}
 use mathlib.Core.Path.{_≡_, refl, _∙_, ap}
 use mathlib.Core.Bool.{false, cond}
-use mathlib.Core.List.{List, [], _∷_}
+use mathlib.Core.List.{List}
 use borrow.Author.Tests.{ne-eqb}
 use lib.Dec.{eqb}
 use lib.ListN.{length}
-use Rattle.sets.specs.Sets.{Words}
-use Rattle.sets.specs.Cut.{mostNames}
 use Rattle.rows.specs.Table.{Table}
 use Rattle.lines.specs.declared.steps.Place.{Place}
 use Rattle.lines.specs.declared.steps.Stage.the-variants.{First, Line}
-use Rattle.lines.specs.Steps.{firstLine, overAfter, lineAt, nextLine, nextNames, nextPiece, stageNext, Does, Steps}
-use Rattle.lines.proofs.Following.{following-inside}
+use Rattle.lines.specs.Steps.{firstLine, overAfter, stageNext, Does, Steps}
 use Rattle.lines.proofs.Stages.{Lines, by-stage}
 
--- so many steps at most are taken at a line
-abbrev lineSteps : ℕ
-lineSteps = mostNames + 2
-
-abbrev ahead : List ℕ → Place → ℕ
-ahead input place = (length input - place .at) * lineSteps + (mostNames + 1 - place .names)
-
+-- at most one for each byte that is left, and one for the end; and the one that empties the table
 abbrev pub stepsLeft : List ℕ → Place → ℕ
-stepsLeft input place = cond (place .over) 0 (suc (cond (eqb (place .line) 0) ((length input + 1) * lineSteps) (ahead input place)))
+stepsLeft input place = cond (place .over) 0 (suc (cond (eqb (place .line) 0) (length input + 1) (length input - place .at)))
 
 module _ (input : List ℕ) (place : Place) (going : place .over ≡ false) where
   some-left : 0 < stepsLeft input place
   some-left = rw going (omega arith)
 
-  first-left : place .line ≡ 0 → stepsLeft input place ≡ suc ((length input + 1) * lineSteps)
+  first-left : place .line ≡ 0 → stepsLeft input place ≡ suc (length input + 1)
   first-left none = rw (going, none)
 
-  lines-left : 0 < place .line → stepsLeft input place ≡ suc (ahead input place)
+  lines-left : 0 < place .line → stepsLeft input place ≡ suc (length input - place .at)
   lines-left some = rw (going, ne-eqb (place .line) 0 (λ e. omega arith))
 
 less-by : {x y a b : ℕ} → x ≡ suc a → y ≡ suc b → a < b → x < y
@@ -49,20 +40,9 @@ module _ (t after : Table) (input : List ℕ) (place : Place) (before filled : L
   first : place .line ≡ 0 → Does First t after input place before filled next → Less
   first none p = less-by (ap (stepsLeft input) (p .next) ∙ lines-left input firstLine refl (omega arith)) (first-left input place going none) (omega arith)
 
-  line : Lines t input place (length before) → place .names ≡ 0 → Does Line t after input place before filled next → Less
-  line l none p =
-      less-by (ap (stepsLeft input) (p .next) ∙ lines-left input (stageNext t input place (length before) Line) refl (l .numbered))
-      (lines-left input place going (l .numbered)) (omega arith)
-
-  piece : Lines t input place (length before) → place .at < length input → 0 < place .names → (l : Words)
-      → nextPiece t input place (length before) ≡ l → next ≡ nextNames input place l → Less
-  piece l h named [] e n =
-      less-by (ap (stepsLeft input) n ∙ lines-left input (nextLine input place) refl (omega arith))
-      (lines-left input place going (l .numbered)) (omega (arith, l .ready .names))
-  piece l h named (w ∷ ws) e n =
-      let inside = following-inside t (lineAt input place) (place .names - 1) (length before) (omega (arith, l .ready .names)) in
-      let few : length (nextPiece t input place (length before)) ≡ length (w ∷ ws) = rw e in
-      less-by (ap (stepsLeft input) n ∙ lines-left input (nextNames input place (w ∷ ws)) refl (l .numbered))
+  line : Lines t input place (length before) → place .at < length input → Does Line t after input place before filled next → Less
+  line l h p =
+      less-by (ap (stepsLeft input) (p .next) ∙ lines-left input (stageNext t input place (length before) Line) refl (omega arith))
       (lines-left input place going (l .numbered)) (omega arith)
 
   less : Steps t after input place before filled next → Less
@@ -72,8 +52,7 @@ module _ (t after : Table) (input : List ℕ) (place : Place) (before filled : L
       (λ r l p. less-over _ (p .next))
       (λ r s none p. first none p)
       (λ l h p. less-over 0 (p .next))
-      (λ l h none p. line l none p)
-      (λ l h named p. piece l h named (nextPiece t input place (length before)) refl (p .next))
+      (λ l h p. line l h p)
 
 -- Each step from a place that is not over leaves fewer.
 pub step-less : {t after : Table} {input : List ℕ} {place : Place} {before filled : List ℕ} {next : Place}

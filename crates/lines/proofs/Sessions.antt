@@ -1,7 +1,7 @@
 -- Step after step, on any table of the desk's length, what is written is what sixteen plain sets print. By induction over the steps: at every
 -- place it is known what is left to print, each step writes the front of it, and the next place has the rest. A line's call keeps a sound book,
--- and on a sound book it is the model's; the pieces of a list go on where the one before them ended. Assumes nothing.
-use Prim.Native.Nat.{ℕ, _+_, _-_, _≤_, _<_}
+-- and on a sound book it is the model's; and all names that follow are written, since no list has more bytes than were read. Assumes nothing.
+use Prim.Native.Nat.{ℕ, _+_, _≤_, _<_}
 use native.Mathlib.Numerals.{add-one}
 use native.Mathlib.Omega.{arith}
 use native.Mathlib.Decide.{decLt}
@@ -11,22 +11,22 @@ use mathlib.Core.List.{List, [], _∷_, _++_, append-assoc, append-nil}
 use borrow.Author.Tests.{le-leb, lt-leb, ne-eqb, not-false}
 use lib.ListN.{length, take, length-take, length-replicate, drop-of-length-le}
 use lib.Seq.{take-all}
-use Rattle.letters.specs.Words.{Word}
-use Rattle.letters.specs.Lists.{linesOf, lines}
-use Rattle.letters.proofs.Lines.{lines-at}
-use Rattle.sets.specs.Sets.{Words}
+use Rattle.letters.specs.Lists.{nameEnd, linesOf}
+use Rattle.letters.proofs.Lines.{nameEnd-le, lines-at}
+use Rattle.model.specs.Lists.{missions}
 use Rattle.rows.specs.Table.{Table, room}
 use Rattle.rows.specs.Words.{lists}
 use Rattle.rows.proofs.Zeros.{zeros-sound, zeros-lists}
+use Rattle.promises.specs.Books.{bookOf}
 use Rattle.promises.proofs.AnyCalls.{sound-book}
 use Rattle.lines.specs.declared.steps.Place.{Place}
-use Rattle.lines.specs.declared.steps.Stage.the-variants.{Over, Long, First, Line, Names}
+use Rattle.lines.specs.declared.steps.Stage.the-variants.{Over, Long, First, Line}
 use Rattle.lines.specs.Requests.{requestOf}
-use Rattle.lines.specs.Steps.{deskNumbers, mostInput, tooLong, mostOutput, beginning, overAfter, lineAt, nextNames, ready, nextPiece, stageText, Does, Steps}
+use Rattle.lines.specs.Steps.{deskNumbers, mostInput, tooLong, mostOutput, beginning, overAfter, lineAt, ready, stageText, Does, Steps}
 use Rattle.lines.specs.Sessions.{prints, inputSize, Taken, StepsFrom, output}
-use Rattle.lines.proofs.Following.{following-inside, following-rest, following-some}
+use Rattle.lines.proofs.Following.{held-none, held-after, all-written}
 use Rattle.lines.proofs.Kept.{line-kept}
-use Rattle.lines.proofs.Places.{Stands, stands-apart, stands-ready, behind, more, left, left-first, left-lines, left-names}
+use Rattle.lines.proofs.Places.{Stands, stands-apart, stands-ready, left, left-first, left-lines}
 use Rattle.lines.proofs.Stages.{Ready, Lines, by-stage, desk-length, stepText, step-written}
 
 module _ (t after : Table) (input : List ℕ) (place : Place) (before filled : List ℕ) (next : Place) (stands : Stands t input place)
@@ -39,7 +39,7 @@ module _ (t after : Table) (input : List ℕ) (place : Place) (before filled : L
   goes-over : (text : List ℕ) (k : ℕ) → left t input place ≡ text → next ≡ overAfter k → after ≡ t → Goes text
   goes-over text k all e same =
       record {
-        then = rw (e, same) (stands-apart t input (overAfter k) (stands .long) refl refl);
+        then = rw (e, same) (stands-apart t input (overAfter k) (stands .long) refl);
         front = rw e (all ∙ sym (append-nil text));
       }
 
@@ -68,26 +68,25 @@ module _ (t after : Table) (input : List ℕ) (place : Place) (before filled : L
               short = λ some. h;
               numbered = omega arith;
               bounded = omega arith;
-              few = omega arith;
-              inside = λ some. absurd (omega arith);
+              held = λ some. rw empty (held-none missions 0);
             });
         front = rw (p .next) (left-first t input place (r .going) none ∙ rw (le-leb (length input) mostInput h, empty, zeros, stands .long));
       }
 
   end : Lines t input place (length before) → length input ≤ place .at → Does Over t after input place before filled next → Goes []
   unfolding linesOf
-  end l h p =
-      let none : place .names ≡ 0 = elim (decLt 0 (place .names)) [ yes some ↦ absurd (omega (arith, stands .inside some)) | no some ↦ omega arith ] in
-      goes-over [] 0
-      (left-lines t input place (l .ready .going) (l .numbered) none ∙ rw (drop-of-length-le input h))
-      (p .next) (p .table)
+  end l h p = goes-over [] 0 (left-lines t input place (l .ready .going) (l .numbered) ∙ rw (drop-of-length-le input h)) (p .next) (p .table)
 
-  line : Lines t input place (length before) → place .at < length input → place .names ≡ 0 → Does Line t after input place before filled next
+  line : Lines t input place (length before) → place .at < length input → Does Line t after input place before filled next
       → Goes (stageText t input place (length before) Line)
-  line l h none p =
+  line l h p =
+      let text : List ℕ = lineAt input place in
       let fine = stands .fine (l .numbered) in
-      let k = line-kept t after (lineAt input place) (place .line) (requestOf (lineAt input place)) fine (p .table) in
+      let held = stands .held (l .numbered) in
+      let k = line-kept t after text (place .line) (requestOf text) fine (p .table) in
+      let inside = nameEnd-le input (place .at) (omega arith) in
       let same-room : room after ≡ room t = rw (k .long) in
+      let on : nameEnd input (place .at) + 1 ≡ place .at + (length text + 1) = omega arith in
       record {
         then =
             rw (p .next)
@@ -95,19 +94,18 @@ module _ (t after : Table) (input : List ℕ) (place : Place) (before filled : L
               long = k .long ∙ stands .long;
               fine = λ some. k .fine;
               short = stands .short;
-              numbered = stands .numbered;
-              bounded = stands .bounded;
-              few = omega arith;
-              inside = λ some. h;
+              numbered = omega (arith, stands .numbered);
+              bounded = omega (arith, stands .numbered, l .short);
+              held = λ some. rw (k .names, on) (held-after (bookOf t) text (place .at) held (requestOf text));
             });
         front =
             rw (p .next)
-            (left-lines t input place (l .ready .going) (l .numbered) none
+            (left-lines t input place (l .ready .going) (l .numbered)
             ∙ rw (
               lines-at input (place .at) h,
-              ne-eqb (place .line) 0 (λ e. omega (arith, l .numbered)),
+              ne-eqb (place .line + 1) 0 (λ e. omega arith),
+              all-written t fine text (place .line) (place .at) (length before) held (omega (arith, l .short)) takes,
               k .told,
-              k .follow,
               same-room,
               k .names,
               sound-book t fine,
@@ -116,74 +114,11 @@ module _ (t after : Table) (input : List ℕ) (place : Place) (before filled : L
             ));
       }
 
-  -- the names of a piece, or none: then none is left
-  none-more : Lines t input place (length before) → place .at < length input → 0 < place .names → after ≡ t
-      → nextPiece t input place (length before) ≡ [] → next ≡ nextNames input place [] → Goes (lines [])
-  unfolding lines
-  none-more l h named same e n =
-      let done : length (behind t input place) ≤ place .names - 1 =
-      elim (decLt (place .names - 1) (length (behind t input place))) [
-        | yes some ↦ absurd (omega (arith, ap length e, following-some t (lineAt input place) (place .names - 1) (length before) (omega arith) some))
-        | no some ↦ omega arith
-      ] in
-      record {
-        then =
-            rw (n, same)
-            (record {
-              long = stands .long;
-              fine = λ some. stands .fine (l .numbered);
-              short = λ some. l .short;
-              numbered = omega (arith, stands .numbered);
-              bounded = omega (arith, stands .numbered, l .short);
-              few = omega arith;
-              inside = λ some. absurd (omega arith);
-            });
-        front =
-            rw (n, same)
-            (left-names t input place (l .ready .going) (l .numbered) named
-            ∙ rw (drop-of-length-le (behind t input place) done, ne-eqb (place .line + 1) 0 (λ e. omega arith)));
-      }
-
-  some-more : Lines t input place (length before) → place .at < length input → 0 < place .names → after ≡ t → (w : Word) (ws : Words)
-      → nextPiece t input place (length before) ≡ w ∷ ws → next ≡ nextNames input place (w ∷ ws) → Goes (lines (w ∷ ws))
-  some-more l h named same w ws e n =
-      let few : length (nextPiece t input place (length before)) ≡ length (w ∷ ws) = ap length e in
-      let on : place .names + length (w ∷ ws) - 1 ≡ place .names - 1 + length (nextPiece t input place (length before)) = omega arith in
-      record {
-        then =
-            rw (n, same)
-            (record {
-              long = stands .long;
-              fine = stands .fine;
-              short = stands .short;
-              numbered = stands .numbered;
-              bounded = stands .bounded;
-              few = omega (arith, following-inside t (lineAt input place) (place .names - 1) (length before) (omega (arith, stands .few)));
-              inside = λ some. h;
-            });
-        front =
-            rw (n, same)
-            (left-names t input place (l .ready .going) (l .numbered) named
-            ∙ ap (λ (z : List ℕ). z ++ more t input place) (following-rest t (lineAt input place) (place .names - 1) (length before))
-            ∙ append-assoc (lines (nextPiece t input place (length before))) _ (more t input place)
-            ∙ (rw (← on, e))
-            ∙ ap (λ (z : List ℕ). lines (w ∷ ws) ++ z) (sym (left-names t input (nextNames input place (w ∷ ws)) refl (l .numbered) (omega arith))));
-      }
-
-  piece : Lines t input place (length before) → place .at < length input → 0 < place .names → after ≡ t → (l : Words)
-      → nextPiece t input place (length before) ≡ l → next ≡ nextNames input place l → Goes (lines l)
-  piece l h named same [] e n = none-more l h named same e n
-  piece l h named same (w ∷ ws) e n = some-more l h named same w ws e n
-
-  names : Lines t input place (length before) → place .at < length input → 0 < place .names → Does Names t after input place before filled next
-      → Goes (stageText t input place (length before) Names)
-  names l h named p = piece l h named (p .table) (nextPiece t input place (length before)) refl (p .next)
-
   goes : Steps t after input place before filled next → Goes (stepText t input place (length before))
   goes =
       by-stage t input place (length before)
       (λ s. Does s t after input place before filled next → Goes (stageText t input place (length before) s))
-      idle long first end line names
+      idle long first end line
 
 steps-print : (steps : List Taken) (input : List ℕ) (t : Table) (place : Place) → Stands t input place → StepsFrom input t place steps
     → output steps ≡ left t input place
@@ -195,7 +130,7 @@ steps-print (s ∷ more) input t place stands (p, takes, rest) =
 -- From the beginning, on any table of the desk's length, the steps write what 01 says that the desk program prints.
 pub desk-prints : (input : List ℕ) (t : Table) (steps : List Taken) → length t ≡ deskNumbers → StepsFrom input t beginning steps
     → output steps ≡ prints input
-desk-prints input t steps long p = steps-print steps input t beginning (stands-apart t input beginning long refl refl) p
+desk-prints input t steps long p = steps-print steps input t beginning (stands-apart t input beginning long refl) p
 
 -- What the program reads of the input suffices.
 pub prints-front : (input : List ℕ) → prints (take inputSize input) ≡ prints input

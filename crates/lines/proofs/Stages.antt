@@ -3,21 +3,16 @@ use Prim.Native.Nat.{ℕ, _+_, _≤_, _<_}
 use native.Mathlib.Omega.{arith}
 use mathlib.Core.Path.{_≡_, refl, sym, _∙_, ap, subst}
 use mathlib.Core.Bool.{true, false, _&&_, and-eq-true-iff}
-use mathlib.Core.List.{List, [], _∷_}
+use mathlib.Core.List.{List}
 use borrow.Author.Tests.{eqb-true, eqb-false, leb-true, leb-false, not-true}
 use lib.Dec.{eqb, leb}
 use lib.ListN.{length, take}
-use Rattle.letters.specs.Lists.{lines}
-use Rattle.sets.specs.Sets.{Words}
-use Rattle.sets.specs.Cut.{mostNames}
 use Rattle.rows.specs.Table.{Table, lengthOk}
-use Rattle.listing.specs.declared.pieces.Piece.{Piece}
-use Rattle.listing.specs.Pieces.{Written}
 use Rattle.printing.proofs.Buffers.{overlaid-long, overlaid-take}
 use Rattle.lines.specs.declared.steps.Place.{Place}
 use Rattle.lines.specs.declared.steps.Stage.{Stage}
-use Rattle.lines.specs.declared.steps.Stage.the-variants.{Over, Long, First, Line, Names}
-use Rattle.lines.specs.Steps.{deskNumbers, mostInput, mostOutput, nextLine, nextNames, isPlace, ready, stageOf, nextPiece, stageText, stageNext, Does, Steps}
+use Rattle.lines.specs.declared.steps.Stage.the-variants.{Over, Long, First, Line}
+use Rattle.lines.specs.Steps.{deskNumbers, mostInput, mostOutput, isPlace, ready, stageOf, stageText, stageNext, Steps}
 use Rattle.lines.proofs.Choices.{by-choice}
 
 -- a step can be taken
@@ -25,7 +20,6 @@ pub record Ready (t : Table) (place : Place) (size : ℕ) : Type 0 where
   pub long : length t ≡ deskNumbers
   pub buffer : mostOutput ≤ size
   pub line : place .line ≤ mostInput + 1
-  pub names : place .names ≤ mostNames + 1
   pub going : place .over ≡ false
 
 ready-is : (t : Table) (place : Place) (size : ℕ) → ready t place size ≡ true → Ready t place size
@@ -33,12 +27,10 @@ ready-is t place size e =
     let (lent, stands) = and-eq-true-iff (eqb (length t) deskNumbers && leb mostOutput size) _ .0 e in
     let (long, buffer) = and-eq-true-iff (eqb (length t) deskNumbers) _ .0 lent in
     let (bounds, going) = and-eq-true-iff (isPlace place) _ .0 stands in
-    let (line, names) = and-eq-true-iff (leb (place .line) (mostInput + 1)) _ .0 bounds in
     record {
       long = eqb-true _ _ long;
       buffer = leb-true _ _ buffer;
-      line = leb-true _ _ line;
-      names = leb-true _ _ names;
+      line = leb-true _ _ bounds;
       going = not-true _ going;
     }
 
@@ -54,11 +46,10 @@ module _ (t : Table) (input : List ℕ) (place : Place) (size : ℕ) where
       → (Ready t place size → mostInput < length input → P Long)
       → (Ready t place size → length input ≤ mostInput → place .line ≡ 0 → P First)
       → (Lines t input place size → length input ≤ place .at → P Over)
-      → (Lines t input place size → place .at < length input → place .names ≡ 0 → P Line)
-      → (Lines t input place size → place .at < length input → 0 < place .names → P Names)
+      → (Lines t input place size → place .at < length input → P Line)
       → P (stageOf t input place size)
   unfolding stageOf
-  by-stage P idle long first end line names =
+  by-stage P idle long first end line =
       by-choice P (ready t place size)
       (λ r.
       let fine = ready-is t place size r in
@@ -71,11 +62,7 @@ module _ (t : Table) (input : List ℕ) (place : Place) (size : ℕ) where
       let more : Lines t input place size = record { ready = fine; short = short; numbered = omega (arith, eqb-false (place .line) 0 e) } in
       by-choice P (leb (length input) (place .at))
       (λ e. end more (leb-true (length input) (place .at) e))
-      (λ e.
-      let inside = leb-false (length input) (place .at) e in
-      by-choice P (eqb (place .names) 0)
-      (λ e. line more inside (eqb-true (place .names) 0 e))
-      (λ e. names more inside (omega (arith, eqb-false (place .names) 0 e))))))
+      (λ e. line more (leb-false (length input) (place .at) e))))
       (λ s. long fine (leb-false (length input) mostInput s)))
       idle
 
@@ -83,8 +70,7 @@ module _ (t : Table) (input : List ℕ) (place : Place) (size : ℕ) where
   Given Over = Unit {0}
   Given Long = Ready t place size × (mostInput < length input)
   Given First = Ready t place size × (length input ≤ mostInput) × (place .line ≡ 0)
-  Given Line = Lines t input place size × (place .at < length input) × (place .names ≡ 0)
-  Given Names = Lines t input place size × (place .at < length input) × (0 < place .names)
+  Given Line = Lines t input place size × (place .at < length input)
 
   pub given : {stage : Stage} → stageOf t input place size ≡ stage → Given stage
   given e =
@@ -94,59 +80,20 @@ module _ (t : Table) (input : List ℕ) (place : Place) (size : ℕ) where
       (λ r l. (r, l))
       (λ r s e. (r, s, e))
       (λ l h. tt)
-      (λ l h e. (l, h, e))
-      (λ l h e. (l, h, e)))
+      (λ l h. (l, h)))
 
 -- the desk's table has a book's length
 pub desk-length : (t : Table) → length t ≡ deskNumbers → lengthOk t ≡ true
 unfolding lengthOk
 desk-length t e = rw e
 
--- some names were printed, or none was left
-abbrev behindNames : Place → Words → Place
-behindNames place l = record { at = place .at; line = place .line; names = place .names + length l; bytes = length (lines l); over = false }
-
-some-next : (input : List ℕ) (place : Place) (l : Words) → (length l ≡ 0 → ⊥) → behindNames place l ≡ nextNames input place l
-some-next input place [] some = absurd (some refl)
-some-next input place (w ∷ l) some = refl
-
-none-next : (input : List ℕ) (place : Place) (l : Words) → length l ≡ 0 → nextLine input place ≡ nextNames input place l
-none-next input place [] none = refl
-none-next input place (w ∷ l) none = absurd (omega arith)
-
-module _ (t : Table) (input : List ℕ) (place : Place) (before filled : List ℕ) (piece : Piece)
-    (p : Written (nextPiece t input place (length before)) before filled piece) where
-  pub some-done : (piece .names ≡ 0 → ⊥)
-      → Does Names t t input place before filled
-      (record { at = place .at; line = place .line; names = place .names + piece .names; bytes = piece .bytes; over = false })
-  some-done some =
-      record {
-        next = rw (p .names, p .bytes) (some-next input place (nextPiece t input place (length before)) (rw (p .names) at some));
-        buffer = p .buffer;
-        table = refl;
-      }
-
-  pub none-done : piece .names ≡ 0 → Does Names t t input place before filled (nextLine input place)
-  none-done none =
-      record {
-        next = none-next input place (nextPiece t input place (length before)) (rw (p .names) at none);
-        buffer = p .buffer;
-        table = refl;
-      }
-
 -- so many bytes are to be written as the text has, and they stand at the buffer's front
-names-bytes : (input : List ℕ) (place : Place) (l : Words) → nextNames input place l .bytes ≡ length (lines l)
-unfolding lines
-names-bytes input place [] = refl
-names-bytes input place (w ∷ l) = refl
-
 stage-bytes : (t : Table) (input : List ℕ) (place : Place) (size : ℕ) (stage : Stage)
     → stageNext t input place size stage .bytes ≡ length (stageText t input place size stage)
 stage-bytes t input place size Over = refl
 stage-bytes t input place size Long = refl
 stage-bytes t input place size First = refl
 stage-bytes t input place size Line = refl
-stage-bytes t input place size Names = names-bytes input place (nextPiece t input place size)
 
 abbrev pub stepText : Table → List ℕ → Place → ℕ → List ℕ
 stepText t input place size = stageText t input place size (stageOf t input place size)

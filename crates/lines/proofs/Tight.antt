@@ -11,7 +11,7 @@ use Rattle.lines.specs.declared.requests.Request.{Request}
 use Rattle.lines.specs.declared.requests.Request.the-variants as request
 use Rattle.lines.specs.declared.steps.Place.{Place}
 use Rattle.lines.specs.declared.steps.Stage.{Stage}
-use Rattle.lines.specs.declared.steps.Stage.the-variants.{Over, Long, First, Line, Names}
+use Rattle.lines.specs.declared.steps.Stage.the-variants.{Over, Long, First, Line}
 use Rattle.lines.specs.Requests.{nameOf, requestOf, callOf}
 use Rattle.lines.specs.Promises.{RequestLeaves}
 use Rattle.lines.specs.Steps.{lineAt, stageOf, StageLeaves, Steps, RequestTight, StageTight}
@@ -29,7 +29,6 @@ stage-tight t u v input place Over p q = p ∙ sym q
 stage-tight t u v input place Long p q = p ∙ sym q
 stage-tight t u v input place First p q = p ∙ sym q
 stage-tight t u v input place Line p q = request-tight t u v (lineAt input place) (requestOf (lineAt input place)) p q
-stage-tight t u v input place Names p q = p ∙ sym q
 
 -- Two outcomes of step.
 pub step-tight : (t u v : Table) (input : List ℕ) (place : Place) (before x y : List ℕ) (p q : Place)

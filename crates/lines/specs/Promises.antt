@@ -1,17 +1,16 @@
 -- What is said to a line, and which names follow. Assumes nothing.
-use Prim.Native.Nat.{ℕ}
+use Prim.Native.Nat.{ℕ, _-_}
 use mathlib.Core.Path.{_≡_}
 use mathlib.Core.Bool.{cond}
-use mathlib.Core.List.{List, []}
+use mathlib.Core.List.{List, [], _++_}
 use lib.Dec.{eqb}
-use lib.ListN.{length, drop}
+use lib.ListN.{length}
 use Rattle.sets.specs.Sets.{Words}
 use Rattle.model.specs.Lists.{listOf}
 use Rattle.model.specs.Call.{Call, Book, Outcome, overlaid}
-use Rattle.model.specs.Call.Call.{count}
+use Rattle.model.specs.Call.Call.{count, write}
 use Rattle.model.specs.Run.{run}
 use Rattle.rows.specs.Table.{Table}
-use Rattle.listing.specs.Pieces.{fitting}
 use Rattle.promises.specs.Books.{bookOf}
 use Rattle.promises.specs.Promises.{Promised, outcomeOf, replyTo}
 use Rattle.printing.specs.Printed.{answerLine, otherLine}
@@ -51,9 +50,16 @@ namesBehind b (request.Call Ask m) = []
 namesBehind b (request.Call Count m) = cond (eqb (run b (count m) .number) 0) (listOf (b .lists) m) []
 namesBehind b request.Other = []
 
--- of the names that follow, from the n-th on, as many as fit whole into so many bytes
-abbrev pub pieceBehind : Table → Request → ℕ → ℕ → Words
-pieceBehind t asked n size = fitting size (drop n (namesBehind (bookOf t) asked))
+-- what a step prints of them, where so many bytes of the buffer are left: what the call write puts there
+abbrev pub writtenBehind : Book → Request → ℕ → List ℕ
+writtenBehind b (request.Call Add m) size = []
+writtenBehind b (request.Call Remove m) size = []
+writtenBehind b (request.Call Ask m) size = []
+writtenBehind b (request.Call Count m) size = run b (write m size) .written
+writtenBehind b request.Other size = []
 
-abbrev pub following : Table → List ℕ → ℕ → ℕ → Words
-following t line n size = pieceBehind t (requestOf line) n size
+-- what a step prints for a line, the n-th, into so many bytes: what is said to it, and the names that follow
+abbrev pub printedFor : Table → List ℕ → ℕ → ℕ → List ℕ
+printedFor t line n size =
+    let answer = saidTo t line n in
+    answer ++ writtenBehind (bookOf t) (requestOf line) (size - length answer)

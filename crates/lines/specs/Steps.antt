@@ -1,14 +1,12 @@
 -- The desk program as steps. What a step prints, and where the program then stands, is told by the table, the input, the place and the size of the
 -- buffer; which row of the table then holds which state is free, and nothing else. Assumes nothing.
-use Prim.Native.Nat.{ℕ, _+_, _*_, _-_}
+use Prim.Native.Nat.{ℕ, _+_, _*_}
 use mathlib.Core.Path.{_≡_}
 use mathlib.Core.Bool.{Bool, true, false, not, cond, _&&_}
-use mathlib.Core.List.{List, [], _∷_}
+use mathlib.Core.List.{List, []}
 use lib.Dec.{eqb, leb}
 use lib.ListN.{length, replicate}
-use Rattle.letters.specs.Lists.{nameAt, nameEnd, lines}
-use Rattle.sets.specs.Sets.{Words}
-use Rattle.sets.specs.Cut.{mostNames}
+use Rattle.letters.specs.Lists.{nameAt, nameEnd}
 use Rattle.model.specs.Call.{overlaid}
 use Rattle.examples.specs.Text.{bytes}
 use Rattle.rows.specs.Table.{Table, width, notRoom}
@@ -18,9 +16,9 @@ use Rattle.lines.specs.declared.requests.Request.{Request}
 use Rattle.lines.specs.declared.requests.Request.the-variants as request
 use Rattle.lines.specs.declared.steps.Place.{Place}
 use Rattle.lines.specs.declared.steps.Stage.{Stage}
-use Rattle.lines.specs.declared.steps.Stage.the-variants.{Over, Long, First, Line, Names}
+use Rattle.lines.specs.declared.steps.Stage.the-variants.{Over, Long, First, Line}
 use Rattle.lines.specs.Requests.{nameOf, requestOf, callOf}
-use Rattle.lines.specs.Promises.{saidTo, LineLeaves, following}
+use Rattle.lines.specs.Promises.{LineLeaves, printedFor}
 
 -- "with a book of room 486": so many numbers has its table
 abbrev pub deskRoom : ℕ
@@ -43,33 +41,23 @@ mostOutput = mostInput + spare
 
 -- where the program stands at first
 abbrev pub beginning : Place
-beginning = record { at = 0; line = 0; names = 0; bytes = 0; over = false }
+beginning = record { at = 0; line = 0; bytes = 0; over = false }
 
 -- at the first line: "the line's number from 1"
 abbrev pub firstLine : Place
-firstLine = record { at = 0; line = 1; names = 0; bytes = 0; over = false }
+firstLine = record { at = 0; line = 1; bytes = 0; over = false }
 
 -- at the end, with so many bytes to be written
 abbrev pub overAfter : ℕ → Place
-overAfter bytes = record { at = 0; line = 0; names = 0; bytes = bytes; over = true }
+overAfter bytes = record { at = 0; line = 0; bytes = bytes; over = true }
 
 -- the line there
 abbrev pub lineAt : List ℕ → Place → List ℕ
 lineAt input place = nameAt input (place .at)
 
--- at the line behind it: "A last line without an end is read as if it had one."
-abbrev pub nextLine : List ℕ → Place → Place
-nextLine input place = record { at = nameEnd input (place .at) + 1; line = place .line + 1; names = 0; bytes = 0; over = false }
-
--- behind some more names of the line, or behind the last
-abbrev pub nextNames : List ℕ → Place → Words → Place
-nextNames input place [] = nextLine input place
-nextNames input place (w ∷ l) =
-    record { at = place .at; line = place .line; names = place .names + length (w ∷ l); bytes = length (lines (w ∷ l)); over = false }
-
--- no step from the beginning leads to a place with more lines or names than there can be
+-- no step from the beginning leads to a place with more lines than there can be
 abbrev pub isPlace : Place → Bool
-isPlace place = leb (place .line) (mostInput + 1) && leb (place .names) (mostNames + 1)
+isPlace place = leb (place .line) (mostInput + 1)
 
 -- a step can be taken: the table is the desk's, the buffer takes every answer, and it is not over
 abbrev pub ready : Table → Place → ℕ → Bool
@@ -81,31 +69,29 @@ stageOf t input place size =
     cond (ready t place size)
     (cond (leb (length input) mostInput)
     (cond (eqb (place .line) 0) First
-    (cond (leb (length input) (place .at)) Over
-    (cond (eqb (place .names) 0) Line Names)))
+    (cond (leb (length input) (place .at)) Over Line))
     Long)
     Over
-
--- "After `L` with number 0 the names follow in order, one per line": the next piece of them; so many were printed
-abbrev pub nextPiece : Table → List ℕ → Place → ℕ → Words
-nextPiece t input place size = following t (lineAt input place) (place .names - 1) size
 
 -- what is printed
 abbrev pub stageText : Table → List ℕ → Place → ℕ → Stage → List ℕ
 stageText t input place size Over = []
 stageText t input place size Long = tooLong
 stageText t input place size First = []
-stageText t input place size Line = saidTo t (lineAt input place) (place .line)
-stageText t input place size Names = lines (nextPiece t input place size)
+stageText t input place size Line = printedFor t (lineAt input place) (place .line) size
 
--- where the program then stands
+-- where the program then stands: at the line behind the one that was answered. "A last line without an end is read as if it had one."
 abbrev pub stageNext : Table → List ℕ → Place → ℕ → Stage → Place
 stageNext t input place size Over = overAfter 0
 stageNext t input place size Long = overAfter (length tooLong)
 stageNext t input place size First = firstLine
 stageNext t input place size Line =
-    record { at = place .at; line = place .line; names = 1; bytes = length (saidTo t (lineAt input place) (place .line)); over = false }
-stageNext t input place size Names = nextNames input place (nextPiece t input place size)
+    record {
+      at = nameEnd input (place .at) + 1;
+      line = place .line + 1;
+      bytes = length (printedFor t (lineAt input place) (place .line) size);
+      over = false;
+    }
 
 -- what the table then is
 abbrev pub StageLeaves : Table → Table → List ℕ → Place → Stage → Type 0
@@ -113,7 +99,6 @@ StageLeaves t after input place Over = after ≡ t
 StageLeaves t after input place Long = after ≡ t
 StageLeaves t after input place First = after ≡ replicate (length t) 0
 StageLeaves t after input place Line = LineLeaves t after (lineAt input place)
-StageLeaves t after input place Names = after ≡ t
 
 -- what there was to do was done
 pub record Does (stage : Stage) (t after : Table) (input : List ℕ) (place : Place) (before filled : List ℕ) (then : Place) : Type 0 where
@@ -137,4 +122,3 @@ StageTight t u v input place Over = u ≡ v
 StageTight t u v input place Long = u ≡ v
 StageTight t u v input place First = u ≡ v
 StageTight t u v input place Line = RequestTight t u v (lineAt input place) (requestOf (lineAt input place))
-StageTight t u v input place Names = u ≡ v

@@ -1,45 +1,46 @@
-// The names that follow a line's answer, in pieces.
+// The names that follow a line's answer.
 use super::requests::Kind;
 use super::requests::Request;
 use super::requests::request_of;
-use listing::Piece;
-use listing::list_mission;
-use rows::MISSIONS;
-use rules::sound;
+use answers::Answer;
+use ranking::write;
+ghost use mathlib.Core.Path.{_≡_};
 ghost use lib.ListN.{length};
-ghost use Rattle.listing.specs.Pieces.{Written};
-ghost use Rattle.lines.specs.Promises.{pieceBehind, following};
+ghost use Rattle.model.specs.Call.{overlaid};
+ghost use Rattle.promises.specs.Books.{bookOf};
+ghost use Rattle.lines.specs.Requests.{requestOf};
+ghost use Rattle.lines.specs.Promises.{writtenBehind};
 
-// From the n-th name of a mission's list on, as many as fit whole, unless a count of them is refused.
-fn list_names(t: &[u16], m: u32, n: u32, out: &mut [u8]) -> Piece
-    ensures { λ p. ⌜ Written (pieceBehind (now (t .entry)) (Request.Call Kind.Count m) n (length (now (out .entry)))) (now (out .entry)) (now (out .exit)) p ⌝ }
+// "the names follow in order, one per line": as the call write puts them, which is done where the count is.
+fn list_names(t: &[u16], m: u32, out: &mut [u8]) -> usize
+    ensures long { λ k. ⌜ k ≡ length (writtenBehind (bookOf (now (t .entry))) (Request.Call Kind.Count m) (length (now (out .entry)))) ⌝ }
+    ensures buffer { λ _. ⌜ now (out .exit) ≡ overlaid (writtenBehind (bookOf (now (t .entry))) (Request.Call Kind.Count m) (length (now (out .entry)))) (now (out .entry)) ⌝ }
 {
-    if !sound(t) {
-        return Piece { names: 0, bytes: 0 };
+    match write(t, m, out) {
+        Answer::Done(bytes) => bytes as usize,
+        Answer::Refused(_) => 0,
     }
-    if MISSIONS <= m as usize {
-        return Piece { names: 0, bytes: 0 };
-    }
-    list_mission(t, m as usize, n, out)
 }
 
 // "After `L` with number 0 the names follow".
-fn follow_call(t: &[u16], kind: Kind, m: u32, n: u32, out: &mut [u8]) -> Piece
-    ensures { λ p. ⌜ Written (pieceBehind (now (t .entry)) (Request.Call kind m) n (length (now (out .entry)))) (now (out .entry)) (now (out .exit)) p ⌝ }
+fn follow_call(t: &[u16], kind: Kind, m: u32, out: &mut [u8]) -> usize
+    ensures long { λ k. ⌜ k ≡ length (writtenBehind (bookOf (now (t .entry))) (Request.Call kind m) (length (now (out .entry)))) ⌝ }
+    ensures buffer { λ _. ⌜ now (out .exit) ≡ overlaid (writtenBehind (bookOf (now (t .entry))) (Request.Call kind m) (length (now (out .entry)))) (now (out .entry)) ⌝ }
 {
     match kind {
-        Kind::Count => list_names(t, m, n, out),
-        Kind::Add | Kind::Remove | Kind::Ask => Piece { names: 0, bytes: 0 },
+        Kind::Count => list_names(t, m, out),
+        Kind::Add | Kind::Remove | Kind::Ask => 0,
     }
 }
 
-// Of the names that follow a line's answer, from the n-th on, as many as fit whole into the buffer, each
-// followed by a line end.
-pub fn follow(t: &[u16], line: &[u8], n: u32, out: &mut [u8]) -> Piece
-    ensures { λ p. ⌜ Written (following (now (t .entry)) (now (line .entry)) n (length (now (out .entry)))) (now (out .entry)) (now (out .exit)) p ⌝ }
+// Writes the names that follow a line's answer to the front of the buffer, each followed by a line end, and says how
+// many bytes they are.
+pub fn follow(t: &[u16], line: &[u8], out: &mut [u8]) -> usize
+    ensures long { λ k. ⌜ k ≡ length (writtenBehind (bookOf (now (t .entry))) (requestOf (now (line .entry))) (length (now (out .entry)))) ⌝ }
+    ensures buffer { λ _. ⌜ now (out .exit) ≡ overlaid (writtenBehind (bookOf (now (t .entry))) (requestOf (now (line .entry))) (length (now (out .entry)))) (now (out .entry)) ⌝ }
 {
     match request_of(line) {
-        Request::Call { kind, mission } => follow_call(t, kind, mission, n, out),
-        Request::Other => Piece { names: 0, bytes: 0 },
+        Request::Call { kind, mission } => follow_call(t, kind, mission, out),
+        Request::Other => 0,
     }
 }

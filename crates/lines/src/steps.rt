@@ -5,7 +5,6 @@ use super::requests::Request;
 use super::requests::name_of;
 use super::requests::request_of;
 use calls::empty;
-use counting::MOST_NAMES;
 use letters::name_at;
 use letters::name_end;
 use printing::copy_front;
@@ -15,11 +14,10 @@ use rows::WIDTH;
 ghost use Prim.Native.Nat.{_+_, _≤_, _<_};
 ghost use mathlib.Core.Path.{_≡_};
 ghost use lib.ListN.{length, replicate};
-ghost use Rattle.sets.specs.Cut.{mostNames};
 ghost use Rattle.model.specs.Call.{overlaid};
 ghost use Rattle.printing.specs.Printed.{spare};
 ghost use Rattle.lines.specs.Promises.{Answered};
-ghost use Rattle.lines.specs.Steps.{deskNumbers, mostInput, tooLong, beginning, firstLine, overAfter, nextLine, isPlace, ready, stageOf, Does, Steps};
+ghost use Rattle.lines.specs.Steps.{deskNumbers, mostInput, tooLong, beginning, firstLine, overAfter, isPlace, ready, stageOf, Does, Steps};
 
 // "at most 8,192 bytes".
 const MOST_INPUT: usize = 8192;
@@ -40,25 +38,21 @@ pub const OUT: usize = MOST_INPUT + SPARE;
 
 // Where the program stands.
 pub struct Place {
-    // Where in the input the line begins that is to be answered, or whose names are printed.
+    // Where in the input the line begins that is to be answered.
     pub at: usize,
     // Its number from 1; 0 before the first step, which empties the table.
     pub line: u32,
-    // 0 where the line is to be answered; else 1 and how many of the names behind it were printed.
-    pub names: u32,
     // So many bytes of the buffer's front are to be written now.
     pub bytes: usize,
     pub over: bool,
 }
 
-// What there is to do: nothing, to say that the input is too long, to empty the table, to answer a line, to
-// print names that follow it.
+// What there is to do: nothing, to say that the input is too long, to empty the table, to answer a line.
 enum Stage {
     Over,
     Long,
     First,
     Line,
-    Names,
 }
 
 pub fn beginning() -> Place
@@ -67,7 +61,6 @@ pub fn beginning() -> Place
     Place {
         at: 0,
         line: 0,
-        names: 0,
         bytes: 0,
         over: false,
     }
@@ -79,17 +72,16 @@ fn over_after(bytes: usize) -> Place
     Place {
         at: 0,
         line: 0,
-        names: 0,
         bytes,
         over: true,
     }
 }
 
-// No step from the beginning leads to a place with more lines or names than there can be.
+// No step from the beginning leads to a place with more lines than there can be.
 fn is_place(place: Place) -> bool
     ensures { λ b. ⌜ b ≡ isPlace place ⌝ }
 {
-    (place.line <= MOST_INPUT as u32 + 1) & (place.names <= MOST_NAMES as u32 + 1)
+    place.line <= MOST_INPUT as u32 + 1
 }
 
 fn is_ready(t: &[u16], place: Place, size: usize) -> bool
@@ -113,11 +105,7 @@ fn stage_of(t: &[u16], input: &[u8], place: Place, size: usize) -> Stage
     if input.len() <= place.at {
         return Stage::Over;
     }
-    if place.names == 0 {
-        Stage::Line
-    } else {
-        Stage::Names
-    }
+    Stage::Line
 }
 
 // "(more: it prints only `! long`)".
@@ -139,7 +127,6 @@ fn begin(t: &mut [u16]) -> Place
     Place {
         at: 0,
         line: 1,
-        names: 0,
         bytes: 0,
         over: false,
     }
@@ -160,53 +147,20 @@ fn answer(t: &mut [u16], line: &[u8], n: u32, out: &mut [u8]) -> usize
     }
 }
 
-// Answers the line, and goes to its names.
+// Answers the line, prints the names that follow, and goes to the next line.
 fn answer_line(t: &mut [u16], input: &[u8], place: Place, out: &mut [u8]) -> Place
-    requires { ⌜ (place .at < length (now input)) × (length (now input) + spare ≤ length (now out)) ⌝ }
+    requires { ⌜ (place .at < length (now input)) × (place .line ≤ mostInput + 1) × (length (now input) + spare ≤ length (now out)) ⌝ }
     ensures { λ p. ⌜ Does Stage.Line (now (t .entry)) (now (t .exit)) (now (input .entry)) place (now (out .entry)) (now (out .exit)) p ⌝ }
 {
     let at = place.at;
-    let line = place.line;
-    let bytes = answer(t, name_at(input, at), line, out);
-    Place {
-        at,
-        line,
-        names: 1,
-        bytes,
-        over: false,
-    }
-}
-
-fn next_line(input: &[u8], place: Place) -> Place
-    requires { ⌜ (place .at < length (now input)) × (place .line ≤ mostInput + 1) ⌝ }
-    ensures { λ p. ⌜ p ≡ nextLine (now (input .entry)) place ⌝ }
-{
-    let at = place.at;
+    let n = place.line;
+    let line = name_at(input, at);
+    let said = answer(t, line, n, out);
+    let names = follow(t, line, &mut out[said..]);
     Place {
         at: name_end(input, at) + 1,
-        line: place.line + 1,
-        names: 0,
-        bytes: 0,
-        over: false,
-    }
-}
-
-// Prints the names behind the line from where the last step ended, and goes on to the next line where none is left.
-fn list_line(t: &[u16], input: &[u8], place: Place, out: &mut [u8]) -> Place
-    requires { ⌜ (place .at < length (now input)) × (place .line ≤ mostInput + 1) × (0 < place .names) × (place .names ≤ mostNames + 1) ⌝ }
-    ensures { λ p. ⌜ Does Stage.Names (now (t .entry)) (now (t .entry)) (now (input .entry)) place (now (out .entry)) (now (out .exit)) p ⌝ }
-{
-    let at = place.at;
-    let names = place.names;
-    let piece = follow(t, name_at(input, at), names - 1, out);
-    if piece.names == 0 {
-        return next_line(input, place);
-    }
-    Place {
-        at,
-        line: place.line,
-        names: names + piece.names,
-        bytes: piece.bytes,
+        line: n + 1,
+        bytes: said + names,
         over: false,
     }
 }
@@ -221,6 +175,5 @@ pub fn step(t: &mut [u16], input: &[u8], place: Place, out: &mut [u8]) -> Place
         Stage::Long => over_after(say_long(out)),
         Stage::First => begin(t),
         Stage::Line => answer_line(t, input, place, out),
-        Stage::Names => list_line(t, input, place, out),
     }
 }

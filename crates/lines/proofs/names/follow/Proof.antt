@@ -1,7 +1,6 @@
 -- `follow` meets its promise: what the line asks for is known in each branch. Assumes nothing.
-use mathlib.Core.Path.{sym, _∙_}
+use mathlib.Core.Path.{refl, sym, _∙_}
 use borrow.Author.Needs.{needs}
-use Rattle.listing.proofs.Listed.{nothing-written}
 use Rattle.lines.proofs.names.follow.Statement.{statement}
 use Rattle.lines.proofs.names.follow.Tie as tie
 
@@ -27,9 +26,8 @@ returns c =
 
 returns-2 : tie.Need-returns-2
 returns-2 c =
-    let s = c .before .before .before .before .before .before .args in
     let asked = sym (c .before .before .request-of .ensures) ∙ c .enum-told .given .1 in
-    nothing-written (s .n) (s .out .now) (rw asked)
+    rw asked (refl, refl)
 
 pub follow-spec : {M : Type 1} → statement M
 follow-spec =

@@ -43,20 +43,10 @@ returns-4 c =
 returns-5 : tie.Need-returns-5
 unfolding stageOf
 returns-5 c =
-    let inside = c .before .before in
-    let numbered = inside .before .before in
+    let numbered = c .before .before in
     let short = numbered .before .before in
-    rw (passed (short .before), short-enough short, ne-eqb _ _ (numbered .if3 .left), lt-leb _ _ (inside .if4 .left), eq-eqb _ _ (c .if5 .taken))
-
-returns-6 : tie.Need-returns-6
-unfolding stageOf
-returns-6 c =
-    let inside = c .before .before in
-    let numbered = inside .before .before in
-    let short = numbered .before .before in
-    rw (passed (short .before), short-enough short, ne-eqb _ _ (numbered .if3 .left), lt-leb _ _ (inside .if4 .left), ne-eqb _ _ (c .if5 .left))
+    rw (passed (short .before), short-enough short, ne-eqb _ _ (numbered .if3 .left), lt-leb _ _ (c .if4 .left))
 
 pub stage-of-spec : {M : Type 1} → statement M
 stage-of-spec =
-    tie.close
-    (tie.spec is-ready-requires returns returns-2 returns-3 returns-4 returns-5 returns-6)
+    tie.close (tie.spec is-ready-requires returns returns-2 returns-3 returns-4 returns-5)

@@ -57,17 +57,8 @@ enum-told-4 c = search needs
 answer-line-requires : tie.Need-answer-line-requires
 answer-line-requires c κs =
     let told = c .before .before in
-    let (lines, inside, none) = known (told .before .before) (told .enum-told4 .given .1) in
-    (inside, omega arith)
-
-enum-told-5 : tie.Need-enum-told-5
-enum-told-5 c = search needs
-
-list-line-requires : tie.Need-list-line-requires
-list-line-requires c κs =
-    let told = c .before .before in
-    let (lines, inside, some) = known (told .before .before) (told .enum-told5 .given .1) in
-    (inside, lines .ready .line, some, lines .ready .names)
+    let (lines, inside) = known (told .before .before) (told .enum-told4 .given .1) in
+    (inside, lines .ready .line, omega arith)
 
 same-length : tie.Need-same-length
 same-length c = search needs
@@ -116,19 +107,6 @@ returns-4 c =
     let stage = found (told .before .before) (told .enum-told4 .given .1) in
     rw stage (answered .answer-line .ensures)
 
-same-length-7 : tie.Need-same-length-7
-same-length-7 c = search needs
-
-same-length-8 : tie.Need-same-length-8
-same-length-8 c = search needs
-
-returns-5 : tie.Need-returns-5
-returns-5 c =
-    let listed = c .before .before in
-    let told = listed .before .before .before in
-    let stage = found (told .before .before) (told .enum-told5 .given .1) in
-    rw stage (listed .list-line .ensures)
-
 pub step-spec : {M : Type 1} → statement M
 step-spec =
     tie.close
@@ -143,8 +121,6 @@ step-spec =
     begin-requires
     enum-told-4
     answer-line-requires
-    enum-told-5
-    list-line-requires
     same-length
     returns
     same-length-2
@@ -154,7 +130,4 @@ step-spec =
     returns-3
     same-length-5
     same-length-6
-    returns-4
-    same-length-7
-    same-length-8
-    returns-5)
+    returns-4)
