@@ -1,11 +1,11 @@
 -- `name_count` meets its promise. The loop's invariant: from the places on both are lists, and the names counted and those to come are all; no more
 -- names are counted than bytes are passed. The measure is the bytes that are left. Assumes nothing.
-use Prim.Native.Nat.{ℕ, _+_, _≤_, _<_}
+use Prim.Native.Nat.{_+_, _≤_}
 use mathlib.Core.Path.{_≡_, ap}
 use native.Mathlib.Omega.{arith}
 use borrow.Author.Needs.{needs}
 use lib.ListN.{length}
-use Rattle.letters.specs.Lists.{namesOf}
+use Rattle.letters.specs.Lists.{longestList, namesOf}
 use Rattle.letters.proofs.Lines.{list-parts}
 use Rattle.sets.specs.Sets.{Words, both}
 use Rattle.merging.specs.Merging.{nextBytes, Lists, bothFrom, bytesLeft}
@@ -21,7 +21,9 @@ abbrev μ-loop : tie.MeasureT-loop
 μ-loop first second at₀ n₀ at n = bytesLeft first second at
 
 -- both have at most 65,535 bytes
-short : (c : tie.At-loop Inv-loop μ-loop) → let args = c .before .before .before .args in length (args .first .now) + length (args .second .now) ≤ 131070
+short : (c : tie.At-loop Inv-loop μ-loop) →
+    let args = c .before .before .before .args in
+    length (args .first .now) + length (args .second .now) ≤ longestList + longestList
 short c =
     let (one, two) = c .before .before .before .pre in
     omega (arith, list-parts _ one .0, list-parts _ two .0)
@@ -58,8 +60,7 @@ loop-less c = more c .less
 loop-again : tie.Need-loop-again Inv-loop μ-loop
 loop-again c =
     let (lists, all, few) = c .before .before .before .loop .inv in
-    let one = more c in
-    (
+    let one = more c in (
       one .lists,
       omega (arith, all, ap (λ (l : Words). length l) (one .words)),
       omega (arith, few, one .less, lists .first .inside, lists .second .inside, one .lists .first .inside, one .lists .second .inside),

@@ -1,20 +1,28 @@
-use borrow.Author.Needs.{needs}
+-- `places_after` meets its promise: where it is a list's turn, that list has a name left, which ends inside it; so one byte more still counts.
+-- Assumes nothing.
+use Prim.Native.Nat.{ℕ, _≤_, _<_}
+use native.Mathlib.Nat.{le-of-lt}
 use mathlib.Core.Path.{_≡_, refl, sym, _∙_}
+use mathlib.Core.List.{List}
+use borrow.Author.Needs.{needs}
+use lib.ListN.{length}
+use Rattle.letters.specs.Lists.{nameEnd}
+use Rattle.letters.proofs.Lines.{nameEnd-le}
 use Rattle.merging.specs.declared.places.Turn.{Turn}
 use Rattle.merging.specs.declared.places.Turn.the-variants.{First, Second, Both, Neither}
-use Prim.Native.Nat.{_+_, _≤_}
-use native.Mathlib.Nat.{le-of-lt}
-use lib.ListN.{length}
-use Rattle.letters.proofs.Lines.{nameEnd-le}
 use Rattle.merging.specs.Merging.{turnOf}
 use Rattle.merging.proofs.Turns.{left-by}
 use Rattle.merging.proofs.places.places_after.Statement.{statement}
 use Rattle.merging.proofs.places.places_after.Tie as tie
 
 -- whose turn it is
-told : (c : tie.After-whose-turn) (t : Turn) → c .whose-turn .result ≡ t
-    → let args = c .before .before .before .args in turnOf (args .first .now) (args .second .now) (args .at) ≡ t
-told c t e = sym (c .whose-turn .ensures) ∙ e
+told : (c : tie.After-whose-turn) (turn : Turn) → c .whose-turn .result ≡ turn
+    → let args = c .before .before .before .args in turnOf (args .first .now) (args .second .now) (args .at) ≡ turn
+told c turn e = sym (c .whose-turn .ensures) ∙ e
+
+-- a name ends inside its list
+inside : (list : List ℕ) (at end : ℕ) → end ≡ nameEnd list at → at < length list → end ≤ length list
+inside list at end e some = rw e (nameEnd-le list at (le-of-lt some))
 
 whose-turn-requires : tie.Need-whose-turn-requires
 whose-turn-requires c κs = search needs
@@ -27,7 +35,8 @@ name-end-requires c κs = search needs
 
 add-t9 : tie.Need-add-t9
 add-t9 c =
-    let inside : c .name-end .result ≤ length (c .before .before .before .before .before .before .args .first .now) = rw (c .name-end .ensures) (nameEnd-le _ _ (le-of-lt (left-by _ _ _ First (told (c .before .before .before) First (c .before .enum-told .given .1)) .0))) in
+    let some = left-by _ _ _ First (told (c .before .before .before) First (c .before .enum-told .given .1)) .0 in
+    let ends = inside _ _ _ (c .name-end .ensures) some in
     search needs
 
 enum-told-2 : tie.Need-enum-told-2
@@ -38,7 +47,8 @@ name-end-requires-2 c κs = search needs
 
 add-t11 : tie.Need-add-t11
 add-t11 c =
-    let inside : c .name-end2 .result ≤ length (c .before .before .before .before .before .before .args .first .now) = rw (c .name-end2 .ensures) (nameEnd-le _ _ (le-of-lt (left-by _ _ _ Both (told (c .before .before .before) Both (c .before .enum-told2 .given .1)) .0))) in
+    let some = left-by _ _ _ Both (told (c .before .before .before) Both (c .before .enum-told2 .given .1)) .0 in
+    let ends = inside _ _ _ (c .name-end2 .ensures) some in
     search needs
 
 name-end-requires-3 : tie.Need-name-end-requires-3
@@ -46,7 +56,8 @@ name-end-requires-3 c κs = search needs
 
 add-t13 : tie.Need-add-t13
 add-t13 c =
-    let inside : c .name-end3 .result ≤ length (c .before .before .before .before .before .before .before .args .second .now) = rw (c .name-end3 .ensures) (nameEnd-le _ _ (le-of-lt (left-by _ _ _ Both (told (c .before .before .before .before) Both (c .before .before .enum-told2 .given .1)) .1))) in
+    let some = left-by _ _ _ Both (told (c .before .before .before .before) Both (c .before .before .enum-told2 .given .1)) .1 in
+    let ends = inside _ _ _ (c .name-end3 .ensures) some in
     search needs
 
 enum-told-3 : tie.Need-enum-told-3
@@ -57,7 +68,8 @@ name-end-requires-4 c κs = search needs
 
 add-t15 : tie.Need-add-t15
 add-t15 c =
-    let inside : c .name-end4 .result ≤ length (c .before .before .before .before .before .before .args .second .now) = rw (c .name-end4 .ensures) (nameEnd-le _ _ (le-of-lt (left-by _ _ _ Second (told (c .before .before .before) Second (c .before .enum-told3 .given .1)) .0))) in
+    let some = left-by _ _ _ Second (told (c .before .before .before) Second (c .before .enum-told3 .given .1)) .0 in
+    let ends = inside _ _ _ (c .name-end4 .ensures) some in
     search needs
 
 enum-told-4 : tie.Need-enum-told-4
@@ -67,7 +79,9 @@ returns : tie.Need-returns
 returns c = rw (told (c .before .before .before) First (c .before .enum-told .given .1), c .name-end .ensures)
 
 returns-2 : tie.Need-returns-2
-returns-2 c = rw (told (c .before .before .before .before) Both (c .before .before .enum-told2 .given .1), c .before .name-end2 .ensures, c .name-end3 .ensures)
+returns-2 c =
+    let turn = told (c .before .before .before .before) Both (c .before .before .enum-told2 .given .1) in
+    rw (turn, c .before .name-end2 .ensures, c .name-end3 .ensures)
 
 returns-3 : tie.Need-returns-3
 returns-3 c = rw (told (c .before .before .before) Second (c .before .enum-told3 .given .1), c .name-end4 .ensures)

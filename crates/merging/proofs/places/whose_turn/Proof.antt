@@ -1,5 +1,6 @@
+-- `whose_turn` meets its promise: each list has a name left or none, and where both have one, their order decides. Assumes nothing.
 use borrow.Author.Needs.{needs}
-use mathlib.Core.Path.{_≡_, refl, sym, _∙_}
+use mathlib.Core.Path.{_≡_, sym, _∙_}
 use Rattle.letters.specs.declared.names.Order.the-variants.{Before, Same, After}
 use Rattle.letters.specs.declared.names.Order.{Order}
 use Rattle.merging.specs.Merging.{turnOf}
