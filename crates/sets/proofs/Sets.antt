@@ -35,7 +35,7 @@ unfolding member keep
 member-keep test u [] = rw and-false
 member-keep test u (v ∷ vs) = rw (member-cond, member-keep test u vs, same-test test u v, ← and-or-distrib-left)
 
-or-swap : (a b c : Bool) → (a || (b || c)) ≡ (b || (a || c))
+pub or-swap : (a b c : Bool) → (a || (b || c)) ≡ (b || (a || c))
 or-swap true b c = rw or-true
 or-swap false b c = refl
 
@@ -112,7 +112,7 @@ inserted : (P : Word → Type 0) (w : Word) (l : Words) → P w → ((u : Word) 
 inserted P w l h f u m = same-or P u w (member u l) (rw member-insert at m) h (f u)
 
 -- lists that rise
-above-rising : (w v : Word) (vs : Words) → before w v ≡ true → Rising (v ∷ vs) → Above w (v ∷ vs)
+pub above-rising : (w v : Word) (vs : Words) → before w v ≡ true → Rising (v ∷ vs) → Above w (v ∷ vs)
 above-rising w v vs b r = (b, members-above w vs (λ u m. before-trans w v u b (member-above v vs (r .0) u m)))
 
 pub rises-rising : (l : Words) → rises l ≡ true → Rising l
@@ -155,6 +155,11 @@ rising-insert w (v ∷ vs) r = go (rising-insert w vs (r .1)) (order w v) refl
     go rest Ordering·eq e = r
     go rest Ordering·gt e = (above-insert v w vs (after-before w v e) (r .0), rest)
 
+pub rising-both : (k l : Words) → Rising l → Rising (both k l)
+unfolding both
+rising-both [] l r = r
+rising-both (v ∷ vs) l r = rising-insert v (both vs l) (rising-both vs l r)
+
 -- one list behind another
 pub rising-append : (k l : Words) → Rising k → Rising l → ((u v : Word) → member u k ≡ true → member v l ≡ true → before u v ≡ true)
     → Rising (k ++ l)
@@ -169,7 +174,7 @@ unfolding member
 above-absent w [] h = refl
 above-absent w (v ∷ vs) h = rw (before-not-same w v (h .0)) (above-absent w vs (h .1))
 
-ext : (k l : Words) → Rising k → Rising l → ((w : Word) → member w k ≡ member w l) → k ≡ l
+pub ext : (k l : Words) → Rising k → Rising l → ((w : Word) → member w k ≡ member w l) → k ≡ l
 unfolding member
 ext [] [] r s f = refl
 ext [] (v ∷ vs) r s f = cc (f v, same-refl v)

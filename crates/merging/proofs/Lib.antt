@@ -1,0 +1,3 @@
+-- The laws of two lists taken as one. Assumes nothing.
+mod Turns
+pub mod Merging
