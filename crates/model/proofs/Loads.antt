@@ -12,7 +12,8 @@ use Rattle.letters.specs.Lists.{longestList, linesOf, ended, rises, namesOf, li
 use Rattle.letters.proofs.Loaded.{written-names, written-list}
 use Rattle.sets.specs.Sets.{Words}
 use Rattle.sets.specs.Residuals.{need}
-use Rattle.sets.proofs.Sets.{both-alone, rising-rises}
+use Rattle.sets.proofs.Sets.{rising-rises}
+use Rattle.sets.proofs.Both.{both-alone}
 use Rattle.sets.proofs.Membership.{here, there}
 use Rattle.model.specs.Lists.{lastMission, missions, listOf, replace, SixteenSets}
 use Rattle.model.specs.Call.{Book, Outcome}
@@ -42,7 +43,7 @@ load-alone b m list = go (isList list) refl
     either false false d e = refl
 
     go : (fine : Bool) → isList list ≡ fine → run b (loadTwo m list []) ≡ run b (load m list)
-    go true e = rw (e, no-list, no-names, both-alone (namesOf list) (list-for-load list e .0))
+    go true e = rw (e, no-list, no-names, both-alone (namesOf list) (list-for-load list e .0 .rising))
     go false e = rw e (either (not (b .lengthOk)) (ltb lastMission m) _ _)
 
 module _ (b : Book) (sets : SixteenSets (b .lists)) (m size : ℕ) (done : run b (write m size) .number ≡ 0) where

@@ -6,7 +6,7 @@ use Prim.Native.Nat.{suc, _+_, _≤_, Ordering, Ordering·lt, Ordering·eq, Orde
 use native.Mathlib.Omega.{arith}
 use mathlib.Core.Path.{_≡_, refl}
 use mathlib.Core.Bool.{Bool, true, false, not, cond, _&&_, _||_, false≢true}
-use mathlib.Core.Bool.{or-true, or-false, or-assoc, or-self-left, and-false, and-comm, and-or-distrib-left, and-eq-true-iff}
+use mathlib.Core.Bool.{or-true, or-assoc, or-self-left, and-false, and-comm, and-or-distrib-left, and-eq-true-iff}
 use mathlib.Core.List.{[], _∷_, _++_}
 use lib.ListN.{length}
 use Rattle.letters.specs.Each.{Each}
@@ -236,13 +236,6 @@ pub both-few : (k l : Words) → length (both k l) ≤ length k + length l
 unfolding both
 both-few [] l = omega arith
 both-few (v ∷ vs) l = omega (arith, insert-few v (both vs l), both-few vs l)
-
--- with no other set it is the set itself
-pub both-alone : (l : Words) → Plain l → both l [] ≡ l
-unfolding member
-both-alone l p =
-    plain-ext (both l []) l (plain-both l [] p (record { rising = tt; spelled = tt })) p
-    (λ w spelled. rw (member-both w l []) (or-false (member w l)))
 
 pub plain-common : (k l : Words) → Plain k → Plain (common k l)
 unfolding common
