@@ -50,7 +50,7 @@ word-sums t tidy =
       none = rw (words-none t 0 refl);
       some = λ r u. omega (arith, some-word t tidy r u);
       low = λ n. omega arith;
-      row = λ r u. omega (arith, length-words t tidy r u, cut-total letters (λ y. length (words t (target t r y))));
+      row = λ r u. omega (arith, length-words t tidy r u, cut-total (suc mostNames) letters (λ y. length (words t (target t r y))));
     }
 
 -- in an array of zeros no row is counted
