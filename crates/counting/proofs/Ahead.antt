@@ -28,11 +28,11 @@ use Rattle.rows.specs.Tidy.{Used, Arc, Tidy}
 use Rattle.rows.specs.Skips.{NextArc}
 use Rattle.rows.proofs.Facts.{no-row, used-row, named-inside}
 use Rattle.rows.proofs.Words.{words-row, words-none}
-use Rattle.counting.specs.Ahead.{aheadBy, ahead}
+use Rattle.counting.specs.Ahead.{sumBy, aheadBy, ahead}
 use Rattle.counting.specs.Counts.{countAt, Counts, CountedRow, Counted}
 
 -- the empty word, or nothing
-abbrev ended : Bool → Words
+abbrev pub ended : Bool → Words
 ended b = cond b ([] ∷ []) []
 
 length-ended : (b : Bool) → length (ended b) ≡ flag b
@@ -84,23 +84,23 @@ nth-behind x [] n h = absurd (omega arith)
 nth-behind x (w ∷ l) zero h = refl
 nth-behind x (w ∷ l) (suc n) h = nth-behind x l n (omega arith)
 
-module _ (given : ℕ → ℕ) (none : given 0 ≡ 0) {t : Table} {r : ℕ} where
+module _ (own : ℕ) (given : ℕ → ℕ) (none : given 0 ≡ 0) {t : Table} {r : ℕ} where
   -- as far as letter x, the letters without a target add nothing
-  pub ahead-skip : {y e : ℕ} → NextArc t r y e → (x : ℕ) → y ≤ x → aheadBy given t r (min e x) ≡ aheadBy given t r y
+  pub ahead-skip : {y e : ℕ} → NextArc t r y e → (x : ℕ) → y ≤ x → sumBy own given t r (min e x) ≡ sumBy own given t r y
   ahead-skip {y} {e} a x h =
       rw (total-skip (λ z. given (target t r z)) y (min e x) (omega arith) (λ z low below. rw (a .none z low (omega arith)) none))
 
   pub ahead-more : {y e : ℕ} → NextArc t r (suc y) e → (x : ℕ) → y < x
-      → aheadBy given t r (min e x) ≡ aheadBy given t r (min y x) + given (target t r y)
+      → sumBy own given t r (min e x) ≡ sumBy own given t r (min y x) + given (target t r y)
   unfolding total
   ahead-more {y} a x h = let low : min y x ≡ y = omega arith in ahead-skip a x h ∙ rw low (omega arith)
 
 module _ (t : Table) (tidy : Tidy t) (r : ℕ) (u : Used t r) where
   -- what the letter's target gives
-  abbrev given : ℕ → Words
+  abbrev pub given : ℕ → Words
   given x = words t (target t r x)
 
-  words-split : words t r ≡ ended (ends t r) ++ over letters (λ x. behind x (given x))
+  pub words-split : words t r ≡ ended (ends t r) ++ over letters (λ x. behind x (given x))
   words-split = words-row t tidy r u ∙ rw (used-row u)
 
   pub length-words : length (words t r) ≡ ahead t r letters

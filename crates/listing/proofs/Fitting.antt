@@ -2,9 +2,9 @@
 -- fits as long as a name is left and the buffer takes the longest. Assumes nothing.
 use Prim.Native.Nat.{ℕ, zero, suc, _+_, _-_, _≤_, _<_}
 use native.Mathlib.Omega.{arith}
-use mathlib.Core.Path.{_≡_, refl, sym, _∙_, ap}
+use mathlib.Core.Path.{_≡_, refl, _∙_, ap}
 use mathlib.Core.Bool.{Bool, true, false}
-use mathlib.Core.List.{List, [], _∷_, _++_, append-assoc}
+use mathlib.Core.List.{[], _∷_, _++_}
 use lib.Dec.{leb}
 use lib.ListN.{length, drop, length-append}
 use lib.Seq.{drop-drop}
@@ -13,6 +13,7 @@ use Rattle.letters.specs.Names.{longest}
 use Rattle.letters.specs.Lists.{line, lines}
 use Rattle.sets.specs.Sets.{Words}
 use Rattle.listing.specs.Pieces.{fitting}
+use Rattle.listing.proofs.Behind.{behind-none, behind-append}
 use Rattle.listing.proofs.Lines.{fits-more}
 
 fitting-front : (size : ℕ) (l : Words) → l ≡ fitting size l ++ drop (length (fitting size l)) l
@@ -26,9 +27,7 @@ fitting-front size (w ∷ l) = go (leb (length (line w)) size) refl (fitting-fro
     go false e more = rw e refl
 
 lines-append : (k l : Words) → lines (k ++ l) ≡ lines k ++ lines l
-unfolding lines
-lines-append [] l = refl
-lines-append (w ∷ k) l = ap (λ (b : List ℕ). line w ++ b) (lines-append k l) ∙ sym (append-assoc (line w) (lines k) (lines l))
+lines-append k l = rw (← behind-none (k ++ l), ← behind-none k, ← behind-none l) (behind-append [] k l)
 
 -- no more names fit than there are
 pub fitting-few : (size : ℕ) (l : Words) → length (fitting size l) ≤ length l

@@ -2,11 +2,11 @@
 use Prim.Native.Nat.{ℕ, _-_}
 use mathlib.Core.Path.{_≡_}
 use mathlib.Core.Bool.{cond}
-use mathlib.Core.List.{List, [], _∷_, _++_}
+use mathlib.Core.List.{List, [], _∷_}
 use lib.Dec.{leb}
 use lib.ListN.{length}
-use Rattle.letters.specs.Letters.{lineEnd}
-use Rattle.letters.specs.Words.{Word, bytesOf}
+use Rattle.letters.specs.Words.{Word}
+use Rattle.letters.specs.Lists.{line, lines}
 use Rattle.sets.specs.Sets.{Words}
 use Rattle.sets.specs.Cut.{mostNames}
 use Rattle.model.specs.Call.{overlaid}

@@ -1,7 +1,7 @@
 -- `count_from` meets its promise: from 0 there is no word, and a row that is counted has its number. The loop's invariant: the targets of the letters
 -- before `x` are counted, the sum is of their words, and the array is as long as it was; the measure is the letters that are left. The measure
 -- of the recursion is what the row asks of a height: a target asks for less. Assumes nothing.
-use Prim.Native.Nat.{ℕ, _-_, _<_}
+use Prim.Native.Nat.{ℕ, suc, _-_, _<_}
 use native.Mathlib.Numerals.{add-one}
 use native.Mathlib.Omega.{arith}
 use mathlib.Core.Path.{_≡_, refl, sym, _∙_}
@@ -10,11 +10,15 @@ use borrow.Fn.Kinds.{In}
 use borrow.Fn.PlainCycle.{Measures, is, falls, and}
 use lib.ListN.{length}
 use Rattle.letters.specs.Letters.{letters}
-use Rattle.rows.specs.Table.{mostRows}
+use Rattle.letters.specs.LetterSet.{flag}
+use Rattle.letters.proofs.LetterSet.{flag-le}
+use Rattle.sets.specs.Cut.{mostNames}
+use Rattle.rows.specs.Table.{mostRows, ends}
 use Rattle.rows.specs.Rules.{above}
 use Rattle.rows.specs.Tidy.{Used}
 use Rattle.rows.proofs.Facts.{target-named, target-below}
-use Rattle.counting.proofs.Filling.{number-none, counts-as-before, SoFar, none-yet, one-more, sum-number, row-counts}
+use Rattle.counting.specs.Counts.{wordCount}
+use Rattle.counting.proofs.Filling.{Sums, numbered-before, word-sums, SoFar, none-yet, one-more, sum-small, sum-number, row-numbered}
 use Rattle.rows.proofs.next_arc.Reads as next-arc
 use Rattle.rows.proofs.target.Reads as target
 use Rattle.counting.proofs.counts.ends_count.Reads as ends-count
@@ -29,7 +33,7 @@ abbrev μ : Measures 2 kinds.ps ℕ
 μ κs a = above (a .0 .now) (a .1 .0)
 
 abbrev Inv-loop : lts.InvT-loop
-Inv-loop t n counts₀ known sum₀ x₀ counts sum x = SoFar t n counts₀ counts sum x × (length counts ≡ length counts₀)
+Inv-loop t n counts₀ known sum₀ x₀ counts sum x = SoFar t (λ r. flag (ends t r)) (wordCount t) n counts₀ counts sum x × (length counts ≡ length counts₀)
 
 abbrev μ-loop : lts.MeasureT-loop
 μ-loop t n counts₀ known sum₀ x₀ counts sum x = letters - x
@@ -60,7 +64,8 @@ module _ (bound : ℕ) where
   returns c =
       let start = c .before .before .before in
       let none : start .args .n ≡ 0 = c .if1 .taken in
-      (counts-as-before (start .pre .1 .0) (λ some. absurd (omega arith)), sym (number-none (start .args .t .now) (start .args .n) none))
+      let t = start .args .t .now in
+      (numbered-before (start .pre .1 .0) (λ some. absurd (omega arith)), rw none (sym (word-sums t (start .pre .1 .0 .tidy) .none)))
 
   -- behind the first test n is a row, and the array has a place for it
   row : (c : lts.Else1 claims at count-from.Post Inv-loop μ-loop) → let args = c .before .before .before .args in Used (args .t .now) (args .n)
@@ -79,7 +84,7 @@ module _ (bound : ℕ) where
   returns-2 c =
       let first = c .before .before in
       let counts = first .before .before .before .pre .1 .0 in
-      (counts-as-before counts (λ _. record { used = row first; some = omega arith }), counts .counted _ (row first) (omega arith))
+      (numbered-before counts (λ _. record { used = row first; some = omega arith }), counts .counted _ (row first) (omega arith))
 
   ends-count-requires : lts.Need-ends-count-requires claims at count-from.Post Inv-loop μ-loop
   ends-count-requires c κs = search needs
@@ -90,7 +95,7 @@ module _ (bound : ℕ) where
   loop-holds : lts.Need-loop-holds claims at count-from.Post Inv-loop μ-loop
   loop-holds c =
       let start = c .before .before .before .before .before .before .before in
-      (none-yet (start .pre .1 .0) (c .before .ends-count .ensures) (c .next-arc .ensures), refl)
+      (none-yet (word-sums _ (start .pre .1 .0 .tidy)) (start .pre .1 .0) (c .before .ends-count .ensures) (c .next-arc .ensures), refl)
 
   -- the places on the way: from the loop the start, and that n is a row there; from a call in it the loop
   abbrev start : lts.At-loop claims at count-from.Post Inv-loop μ-loop → lts.Start claims at count-from.Post Inv-loop μ-loop
@@ -98,6 +103,10 @@ module _ (bound : ℕ) where
 
   row-of : (l : lts.At-loop claims at count-from.Post Inv-loop μ-loop) → let args = start l .args in Used (args .t .now) (args .n)
   row-of l = row (l .before .before .before .before .before)
+
+  law : (l : lts.At-loop claims at count-from.Post Inv-loop μ-loop) → let t = start l .args .t .now in
+      Sums t (suc mostNames) (λ r. flag (ends t r)) (wordCount t)
+  law l = word-sums _ (l .loop .inv .0 .counts .tidy)
 
   abbrev loop-of : lts.After-slice-known3 claims at count-from.Post Inv-loop μ-loop → lts.At-loop claims at count-from.Post Inv-loop μ-loop
   loop-of c = c .before .before .before .before .before .before
@@ -123,7 +132,10 @@ module _ (bound : ℕ) where
   cast-sum c = search needs
 
   add-sum : lts.Need-add-sum claims at count-from.Post Inv-loop μ-loop
-  add-sum c = omega (arith, loop-of c .loop .inv .0 .small, c .before .before .count-from .ensures .1)
+  add-sum c =
+      let l = loop-of c in
+      let args = start l .args in
+      omega (arith, sum-small (law l) (l .loop .inv .0), flag-le (ends (args .t .now) (args .n)), c .before .before .count-from .ensures .1)
 
   add-next-arc : lts.Need-add-next-arc claims at count-from.Post Inv-loop μ-loop
   add-next-arc c = search needs
@@ -139,7 +151,7 @@ module _ (bound : ℕ) where
       let called = c .before .before .before in
       let l = loop-of (c .before) in
       let (more, number) = rw (called .before .before .target .ensures) at (called .count-from .ensures) in (
-        one-more (l .loop .inv .0) (omega arith) more number (rw add-one at (c .next-arc2 .ensures)),
+        one-more (law l) (l .loop .inv .0) (omega arith) more number (rw add-one at (c .next-arc2 .ensures)),
         called .count-from .kept .1 .1 .0 ∙ l .loop .inv .1,
       )
 
@@ -161,7 +173,7 @@ module _ (bound : ℕ) where
   returns-3 c =
       let l = c .before .before in
       let so-far = l .loop .inv .0 in
-      rw (c .cut .ensures) (row-counts so-far (row-of l) (omega arith), sum-number so-far (row-of l) (omega arith))
+      (row-numbered (law l) so-far (row-of l) (omega arith) (c .cut .ensures), sum-number (law l) so-far (row-of l) (omega arith) (c .cut .ensures))
 
 pub +count-from-spec : {M : Type 1} → statement M
 +count-from-spec = close μ λ bound. lts.spec

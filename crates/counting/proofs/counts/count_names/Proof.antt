@@ -1,7 +1,7 @@
 -- `count_names` meets its promise: in an array of zeros no row is counted, and counting goes from the mission's start. Assumes nothing.
 use borrow.Author.Needs.{needs}
 use Rattle.rows.proofs.Books.{start-named}
-use Rattle.counting.proofs.Filling.{zeros-counts}
+use Rattle.counting.proofs.Filling.{zeros-numbered}
 use Rattle.counting.proofs.counts.count_names.Statement.{statement}
 use Rattle.counting.proofs.counts.count_names.Tie as tie
 
@@ -15,7 +15,7 @@ count-from-requires : tie.Need-count-from-requires
 count-from-requires c κs =
     let start = c .before .before .before .before in
     let (tidy, mission, zeros) = start .pre in
-    rw (zeros, c .before .start .ensures) (zeros-counts tidy (tidy .most), start-named (start .args .t .now) tidy (start .args .m) mission)
+    rw (zeros, c .before .start .ensures) (zeros-numbered _ tidy (tidy .most), start-named (start .args .t .now) tidy (start .args .m) mission)
 
 same-length : tie.Need-same-length
 same-length c = search needs

@@ -7,6 +7,7 @@ use native.Mathlib.Numerals.{add-one}
 use native.Mathlib.Omega.{arith}
 use borrow.Author.Needs.{needs}
 use Rattle.letters.specs.Letters.{letters}
+use Rattle.letters.specs.LetterSet.{flag}
 use Rattle.letters.proofs.LetterSet.{flag-le}
 use Rattle.sets.specs.Below.{total}
 use Rattle.rows.specs.Table.{target, ends}
@@ -33,7 +34,7 @@ unfolding total
 loop-holds c =
     let start = c .before .before .before .before in
     let args = start .args in
-    let skip = ahead-skip (λ s. countAt (args .counts .now) s) (start .pre .4) (c .next-arc .ensures) (args .x) (omega arith) in (
+    let skip = ahead-skip (flag (ends (args .t .now) (args .r))) (λ s. countAt (args .counts .now) s) (start .pre .4) (c .next-arc .ensures) (args .x) (omega arith) in (
       c .next-arc .ensures .to,
       omega (arith, c .before .ends-count .ensures, flag-le (ends (args .t .now) (args .r))),
       omega (arith, c .before .ends-count .ensures, skip),
@@ -68,7 +69,9 @@ loop-again c =
     let loop = called .before .before .loop in
     let start = called .before .before .before .before .before .before .before in
     let skipped = rw add-one at (c .next-arc2 .ensures) in
-    let more = ahead-more (λ s. countAt (start .args .counts .now) s) (start .pre .4) skipped (start .args .x) (omega arith) in
+    let args = start .args in
+    let own = flag (ends (args .t .now) (args .r)) in
+    let more = ahead-more own (λ s. countAt (args .counts .now) s) (start .pre .4) skipped (args .x) (omega arith) in
     (skipped .to, omega (arith, small called), omega (arith, called .target-count .ensures, more))
 
 returns : tie.Need-returns Inv-loop μ-loop
