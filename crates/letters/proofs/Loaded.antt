@@ -1,13 +1,13 @@
 -- A list for load and its names, there and back. What is written of the names of a list are the bytes that were loaded: a list is its lines,
 -- each with its end, and each line is a name, which comes back in its own bytes. And what is written of rising names is a list, with these
 -- names: no letter's byte is the line end. Assumes nothing.
-use Prim.Native.Nat.{ℕ, _≤_, _<_}
+use Prim.Native.Nat.{ℕ, _+_, _≤_, _<_}
 use native.Mathlib.Omega.{arith}
 use mathlib.Core.Path.{_≡_, refl, _∙_, ap}
 use mathlib.Core.Bool.{Bool, true, false, cond, and-eq-true-iff}
 use mathlib.Core.List.{List, [], _∷_, _++_, map}
 use lib.Dec.{eqb}
-use lib.ListN.{length}
+use lib.ListN.{length, length-append, length-map}
 use borrow.Author.Tests.{eqb-true, ne-eqb, le-leb}
 use Rattle.letters.specs.Each.{every, Each}
 use Rattle.letters.specs.Letters.{letters, lineEnd, letter, byteOf}
@@ -51,6 +51,15 @@ listed-bytes bytes e =
     names-joined (linesOf bytes) named ∙ joined-lines bytes ended
 
 -- ---- the bytes of rising names
+
+pub line-long : (w : Word) → length (line w) ≡ length w + 1
+line-long w = simp (length-append, length-map)
+
+-- no more words than bytes
+pub lines-long : (l : List Word) → length l ≤ length (lines l)
+unfolding lines
+lines-long [] = omega arith
+lines-long (w ∷ l) = simp length-append (omega (arith, lines-long l))
 
 byte-no-end : (x : ℕ) → x < letters → eqb (byteOf x) lineEnd ≡ false
 byte-no-end x h = ne-eqb (byteOf x) lineEnd (λ e. omega (arith, letter-byteOf x h, letter-lineEnd, ap letter e))

@@ -15,6 +15,7 @@ use lib.ListN.{length, replicate, length-append, length-map, length-drop}
 use Rattle.letters.specs.Each.{Each}
 use Rattle.letters.specs.Words.{Word, wordOf, order}
 use Rattle.letters.specs.Lists.{longestList, line, lines}
+use Rattle.letters.proofs.Loaded.{line-long, lines-long}
 use Rattle.sets.specs.Sets.{Words, keep, put, insert, delete}
 use Rattle.sets.specs.Cut.{mostNames}
 use Rattle.model.specs.Lists.{missions, listOf}
@@ -75,14 +76,6 @@ some-names test (v ∷ vs) = go (some-names test vs) (test v)
         → length (lines (cond b (v ∷ keep test vs) (keep test vs))) ≤ length (lines (v ∷ vs))
     go rest true = simp length-append (omega arith)
     go rest false = simp length-append (omega arith)
-
-line-long : (w : Word) → length (line w) ≡ length w + 1
-line-long w = simp (length-append, length-map)
-
-few-names : (l : Words) → length l ≤ length (lines l)
-unfolding lines
-few-names [] = omega arith
-few-names (w ∷ l) = simp length-append (omega (arith, few-names l))
 
 -- each list has at most so many bytes
 abbrev pub Held : ℕ → List Words → Type 0
@@ -145,12 +138,12 @@ module _ (t : Table) (s : sound t ≡ true) (text : List ℕ) (n at size : ℕ) 
     short = held-list (lists t) held m
 
     answer-short : length (answerLine text 0 (length l)) ≤ length text + spare
-    answer-short = simp length-append (omega (arith, field-short 0 (omega arith), field-short (length l) (omega (arith, short, few-names l))))
+    answer-short = simp length-append (omega (arith, field-short 0 (omega arith), field-short (length l) (omega (arith, short, lines-long l))))
 
     count-done : m < missions → run (bookOf t) (count m) ≡ answers (bookOf t) (length l)
     count-done h =
         run-ruled (bookOf t) (count m)
-        ∙ rw (sound-length t s, mission-under m h, s, le-ltb mostNames (length l) (omega (arith, short, few-names l)))
+        ∙ rw (sound-length t s, mission-under m h, s, le-ltb mostNames (length l) (omega (arith, short, lines-long l)))
 
     write-done : m < missions → (k : ℕ) → length (lines l) ≤ k → run (bookOf t) (write m k) ≡ puts (bookOf t) (lines l) (length (lines l))
     write-done h k fits =

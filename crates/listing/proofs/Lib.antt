@@ -2,8 +2,5 @@
 pub mod Behind
 pub mod Sizing
 pub mod Writing
-pub mod Lines
 pub mod Steps
 pub mod Spelling
-pub mod Listed
-pub mod Fitting

@@ -11,6 +11,7 @@ use Rattle.letters.specs.Letters.{letters, byteOf}
 use Rattle.letters.specs.LetterSet.{flag}
 use Rattle.letters.specs.Lists.{longestList, line, lines}
 use Rattle.letters.proofs.LetterSet.{flag-le}
+use Rattle.letters.proofs.Loaded.{lines-long}
 use Rattle.sets.specs.Below.{total, over}
 use Rattle.sets.specs.Sets.{Words}
 use Rattle.sets.proofs.Below.{total-agree, length-over}
@@ -31,11 +32,6 @@ behind-one : (b : ℕ) (l : Words) → length (linesBehind (b ∷ []) l) ≡ len
 unfolding linesBehind lines
 behind-one b [] = refl
 behind-one b (w ∷ l) = rw (length-append (b ∷ line w), length-append (line w), behind-one b l) (omega arith)
-
-lines-long : (l : Words) → length l ≤ length (lines l)
-unfolding lines
-lines-long [] = omega arith
-lines-long (w ∷ l) = simp length-append (omega (arith, lines-long l))
 
 total-both : (n : ℕ) (f g : ℕ → ℕ) → total n (λ i. f i + g i) ≡ total n f + total n g
 unfolding total
