@@ -16,26 +16,30 @@
  * null, also where its length is 0, must be aligned for its type, and `length` numbers or bytes behind it
  * must be the host's. While a call runs nothing else may write what it was lent, and what it writes (a
  * table that is not const, a buffer, *followed, *letters) must not overlap anything else that it was
- * lent. Two threads may read one table at the same time.
+ * lent. The two lists of load_two are only read, so they may overlap each other. Two threads may read one
+ * table at the same time.
  *
  * Names are bytes, without an end: `0` to `9`, `A` to `Z` and `_`, in this order, 1 to 24 of them. Any
  * bytes may be given; what is no name is refused. Missions are 0 to 15.
  *
  * The answer is number * 2^32 + value; BOOK_NUMBER and BOOK_VALUE take it apart. Number 0 is done. Any
  * other number is a refusal: the value is 0, *followed or *letters becomes 0, and the table and the
- * answer buffer are as they were. Of the refusals that apply, the lowest is given:
+ * answer buffer are as they were. Of the refusals that apply, the lowest is given; but book_write tests 1,
+ * 2, 7, then 5, then 6, and the first of this order is given, since only a sound book has a list to write:
  *
- *    1  the length is not BOOK_LENGTH(r) for a room r from 1 to 1,000         all
- *    2  a mission number over 15                                              all with one
- *    3  the operation is not 1, 2 or 3                                        combine
- *    4  no name (next: no prefix, 0 to 24 letters)                            ask next add remove rank
- *    5  no list                                                               load
- *    6  the answer buffer has under 24 bytes                                  nth
- *    7  the table is not a sound book                                         all but empty ask next
- *    8  the receiving list is not empty                                       load combine
- *    9  the list has over 60,000 names                                        count rank nth
- *   10  n is not under the count                                              nth
- *   11  the sixteen lists after the change need more states than room         add remove load combine
+ *    1  the length is not BOOK_LENGTH(r) for a room r from 1 to 1,000     all
+ *    2  a mission number over 15                                          all with one
+ *    3  the operation is not 1, 2 or 3                                    combine
+ *    4  no name (next: no prefix, 0 to 24 letters)                        ask next add remove rank
+ *    5  no list (load_two: either is none)                                load load_two
+ *       the list needs over 65,535 bytes                                  write
+ *    6  the answer buffer has under 24 bytes                              nth
+ *       the answer buffer has fewer bytes than the list needs             write
+ *    7  the table is not a sound book                                     all but empty ask next
+ *    8  the receiving list is not empty                                   load load_two combine
+ *    9  the list has over 60,000 names                                    count rank nth
+ *   10  n is not under the count                                          nth
+ *   11  the sixteen lists after the change need more states than room     add remove load load_two combine
  *
  * Stack. combine keeps a table of pairs on the stack, 2,105,352 bytes; with its frames it was measured to
  * take under 2,120,000. Call it from a thread with 4 MiB of stack or more. The other calls were measured
@@ -110,6 +114,12 @@ uint64_t book_clear(uint16_t *table, size_t length, uint32_t mission);
    followed by 0x0A, names strictly rising, at most 65,535 bytes. The value is the number of names. */
 uint64_t book_load(uint16_t *table, size_t length, uint32_t mission, const uint8_t *list, size_t list_length);
 
+/* Put all names of two lists on the mission's list, which must be empty. Each is a list as load takes it,
+   of at most 65,535 bytes, so that they may have 131,070 together; either may be empty. A name that both
+   have is put there once. The value is the number of different names. */
+uint64_t book_load_two(uint16_t *table, size_t length, uint32_t mission, const uint8_t *first, size_t first_length,
+                       const uint8_t *second, size_t second_length);
+
 /* Combine the lists of missions a and b into the list of mission c, which must be empty. Operation 1:
    both together, 2: the common names, 3: the names of a that b has not. Value 1 if the result has a
    name, else 0. Takes over 2 MB of stack. */
@@ -124,6 +134,11 @@ uint64_t book_rank(const uint16_t *table, size_t length, uint32_t mission, const
 /* The name of the mission's list that has n names before it, written to the front of the buffer, which
    has at least 24 bytes; later bytes stay. The value is its length. */
 uint64_t book_nth(const uint16_t *table, size_t length, uint32_t mission, uint32_t n, uint8_t *buffer, size_t buffer_length);
+
+/* Write the mission's list to the front of the buffer, as bytes that load takes back: each name followed by
+   0x0A, in order; later bytes stay. The value is the number of bytes, which is 0 for an empty list and at
+   most 65,535: such a buffer is large enough for every list that can be written. */
+uint64_t book_write(const uint16_t *table, size_t length, uint32_t mission, uint8_t *buffer, size_t buffer_length);
 
 /* The number of rows in use, which is the fewest states that any automaton with the sixteen lists has. */
 uint64_t book_used(const uint16_t *table, size_t length);

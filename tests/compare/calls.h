@@ -1,4 +1,4 @@
-// calls.h: the calls, 01's table of refusals, and what is expected of a call by the sets.
+// calls.h: the calls, the refusals of 01 and 02, and what is expected of a call by the sets.
 #ifndef COMPARE_CALLS_H
 #define COMPARE_CALLS_H
 
@@ -14,7 +14,6 @@
 #include <iostream>
 #include <iterator>
 #include <optional>
-#include <set>
 #include <string>
 #include <variant>
 #include <vector>
@@ -23,7 +22,7 @@ namespace {
 
 // The calls of the book, and behind them what a script itself does to the table.
 enum class Kind {
-    empty, check, ask, next, add, remove, clear, load, combine, count, rank, nth, used,
+    empty, check, ask, next, add, remove, clear, load, load_two, combine, count, rank, nth, write, used,
     numbers, length, many_names
 };
 
@@ -36,7 +35,7 @@ struct Answer {
     uint32_t value = 0;
     uint32_t followed = 0;
     uint64_t letters = 0;
-    std::string buffer = {};  // all of it, with the bytes behind the name
+    std::string buffer = {};  // all of it, with the bytes behind the name or the list
 };
 
 struct Change {
@@ -62,6 +61,7 @@ struct Call {
     uint32_t n = 0;
     uint32_t buffer_length = 0;
     std::string bytes = {};            // the name, prefix or list
+    std::string second = {};           // list of load_two
     std::vector<Change> changes = {};  // to numbers of the table
     size_t length = 0;                 // of the table from here on
     std::optional<Answer> stored = {};
@@ -79,13 +79,13 @@ using Argument = std::variant<uint32_t Call::*, std::string Call::*>;
 struct BookCall {
     const char* word;
     std::vector<Argument> arguments;  // in the order of a script's line
-    std::set<uint32_t> refusals;      // 01's table, its column "Calls" turned round
+    std::vector<uint32_t> refusals;   // 01's table, its column "Calls" turned round, in the order of the tests
 };
 
 constexpr uint32_t last_refusal = 11;
 constexpr size_t most_counted = 60000;
 
-const std::array<BookCall, 13> book_calls = {{
+const std::array<BookCall, 15> book_calls = {{
     {"empty", {}, {1}},
     {"check", {}, {1, 7}},
     {"ask", {&Call::mission, &Call::bytes}, {1, 2, 4}},
@@ -94,10 +94,12 @@ const std::array<BookCall, 13> book_calls = {{
     {"remove", {&Call::mission, &Call::bytes}, {1, 2, 4, 7, 11}},
     {"clear", {&Call::mission}, {1, 2, 7}},
     {"load", {&Call::mission, &Call::bytes}, {1, 2, 5, 7, 8, 11}},
+    {"load_two", {&Call::mission, &Call::bytes, &Call::second}, {1, 2, 5, 7, 8, 11}},
     {"combine", {&Call::operation, &Call::mission, &Call::b, &Call::c}, {1, 2, 3, 7, 8, 11}},
     {"count", {&Call::mission}, {1, 2, 7, 9}},
     {"rank", {&Call::mission, &Call::bytes}, {1, 2, 4, 7, 9}},
     {"nth", {&Call::mission, &Call::n, &Call::buffer_length}, {1, 2, 6, 7, 9, 10}},
+    {"write", {&Call::mission, &Call::buffer_length}, {1, 2, 7, 5, 6}},
     {"used", {}, {1, 7}},
 }};
 
@@ -106,7 +108,8 @@ const BookCall& book_call(Kind kind) {
 }
 
 bool may_be_refused_by(uint32_t number, Kind kind) {
-    return book_call(kind).refusals.count(number) == 1;
+    const std::vector<uint32_t>& refusals = book_call(kind).refusals;
+    return std::find(refusals.begin(), refusals.end(), number) != refusals.end();
 }
 
 // What is known of a table beside its numbers: the sets, as long as it is a sound book.
@@ -116,19 +119,44 @@ struct Known {
     Lists lists = {};
     std::optional<Sizes> sizes = {};  // by the table, in place of sets that could not hold the lists
 
-    size_t names_on(uint32_t mission) const { return sizes ? (*sizes)[mission] : lists[mission].size(); }
+    size_t names_on(uint32_t mission) const { return sizes ? (*sizes)[mission].names : lists[mission].size(); }
+    size_t bytes_of(uint32_t mission) const {
+        return sizes ? (*sizes)[mission].bytes : list_of_names(lists[mission]).size();
+    }
 };
 
 constexpr size_t most_held = 100000;  // names on one list, by the sets
-constexpr char untouched = '\xC3';    // what an answer buffer holds before the call
+
+// What an answer buffer holds before the call: bytes of all kinds, letters and 0x0A too.
+std::string buffer_before(const Call& call) {
+    std::string buffer(call.buffer_length, 0);
+    uint32_t state = 1;
+    for (char& byte : buffer) {
+        state = state * 1664525 + 1013904223;
+        byte = static_cast<char>(state >> 24);
+    }
+    return buffer;
+}
 
 bool changes_a_list(Kind kind) {
     return kind == Kind::clear || may_be_refused_by(11, kind);
 }
 
+// Is a name or a list the answer of the call?
+bool writes_to_buffer(Kind kind) {
+    return may_be_refused_by(6, kind);
+}
+
 // The mission whose list the call reads or changes.
 uint32_t mission_of(const Call& call) {
     return call.kind == Kind::combine ? call.c : call.mission;
+}
+
+// The names that a load puts on a list: those of its list, or of both its lists. Nothing, if either is no list.
+std::optional<Names> names_of_load(const Call& call) {
+    const std::optional<Names> first = names_of_list(call.bytes);
+    const std::optional<Names> second = names_of_list(call.second);
+    return first && second ? std::optional(combined(1, *first, *second)) : std::nullopt;
 }
 
 Names list_after(const Call& call, const Lists& lists) {
@@ -137,7 +165,8 @@ Names list_after(const Call& call, const Lists& lists) {
         case Kind::add: names.insert(call.bytes); break;
         case Kind::remove: names.erase(call.bytes); break;
         case Kind::clear: names.clear(); break;
-        case Kind::load: names = *names_of_list(call.bytes); break;
+        case Kind::load:
+        case Kind::load_two: names = *names_of_load(call); break;
         case Kind::combine: names = combined(call.operation, lists[call.mission], lists[call.b]); break;
         default: break;
     }
@@ -148,16 +177,16 @@ size_t needed_after(const Call& call, Lists& lists) {
     return lists.needed_with(mission_of(call), list_after(call, lists));
 }
 
-// 01's table of refusals, its column "Given exactly when". The numbers are tried in rising order: where one looks
-// at missions, names or lists, those before it have found them good.
+// 01's table of refusals, its column "Given exactly when", and those of 02's wishes. The numbers are tried in the
+// call's order: where one looks at missions, names or lists, those before it have found them good.
 bool applies(uint32_t number, const Call& call, Known& known) {
     switch (number) {
         case 1: return !is_slice(known.length);
         case 2: return std::max({call.mission, call.b, call.c}) >= missions;
         case 3: return call.operation < 1 || call.operation > 3;
         case 4: return call.kind == Kind::next ? !is_prefix(call.bytes) : !is_name(call.bytes);
-        case 5: return !names_of_list(call.bytes);
-        case 6: return call.buffer_length < longest_name;
+        case 5: return call.kind == Kind::write ? known.bytes_of(call.mission) > longest_list : !names_of_load(call);
+        case 6: return call.buffer_length < (call.kind == Kind::write ? known.bytes_of(call.mission) : longest_name);
         case 7: return !known.sound;
         case 8: return known.names_on(mission_of(call)) != 0;
         case 9: return known.names_on(mission_of(call)) > most_counted;
@@ -166,7 +195,8 @@ bool applies(uint32_t number, const Call& call, Known& known) {
     }
 }
 
-// "Of those that apply to a call, the lowest is given, and none when none applies."
+// "Of those that apply to a call, the lowest is given, and none when none applies." Writing: "1, 2, 7, then 5 if over
+// 65,535 bytes are needed, 6 if the buffer is short."
 uint32_t refusal(const Call& call, Known& known) {
     for (const uint32_t number : book_call(call.kind).refusals) {
         if (applies(number, call, known)) return number;
@@ -183,11 +213,13 @@ size_t value_when_done(const Call& call, const Lists& lists) {
         case Kind::add: return 1 - names.count(call.bytes);
         case Kind::remove: return names.count(call.bytes);
         case Kind::clear: return names.empty() ? 0 : 1;
-        case Kind::load: return list_after(call, lists).size();
+        case Kind::load:
+        case Kind::load_two: return list_after(call, lists).size();
         case Kind::combine: return list_after(call, lists).empty() ? 0 : 1;
         case Kind::count: return names.size();
         case Kind::rank: return static_cast<size_t>(std::distance(names.begin(), names.lower_bound(call.bytes)));
         case Kind::nth: return std::next(names.begin(), call.n)->size();
+        case Kind::write: return list_of_names(names).size();
         case Kind::used: return lists.needed();
         default: return 0;
     }
@@ -217,8 +249,10 @@ std::optional<size_t> value_by_table(const Call& call, const Known& known, const
         case Kind::add: return table.accepts(call.mission, call.bytes) ? 0 : 1;
         case Kind::remove: return table.accepts(call.mission, call.bytes) ? 1 : 0;
         case Kind::clear: return known.names_on(call.mission) == 0 ? 0 : 1;
-        case Kind::load: return names_of_list(call.bytes)->size();
+        case Kind::load:
+        case Kind::load_two: return names_of_load(call)->size();
         case Kind::count: return known.names_on(call.mission);
+        case Kind::write: return known.bytes_of(call.mission);
         case Kind::used: return table.rows_in_use().size();
         case Kind::check: return 0;
         default: return std::nullopt;
@@ -240,7 +274,7 @@ Answer answer_by_table(const Call& call, const Known& known, const Table& table)
 Answer expected_answer(const Call& call, Known& known, const Table& table) {
     Answer answer;
     answer.number = refusal(call, known);
-    answer.buffer.assign(call.buffer_length, untouched);
+    answer.buffer = buffer_before(call);
     if (answer.number != 0 || call.kind == Kind::empty) return answer;
     if (!known.sound) return walked_answer(call, table);
     if (known.sizes) return answer_by_table(call, known, table);
@@ -249,6 +283,7 @@ Answer expected_answer(const Call& call, Known& known, const Table& table) {
     if (call.kind == Kind::ask) answer.followed = static_cast<uint32_t>(longest_prefix(names, call.bytes));
     if (call.kind == Kind::next) answer.letters = letters_after(names, call.bytes);
     if (call.kind == Kind::nth) answer.buffer.replace(0, answer.value, *std::next(names.begin(), call.n));
+    if (call.kind == Kind::write) answer.buffer.replace(0, answer.value, list_of_names(names));
     return answer;
 }
 
@@ -268,8 +303,8 @@ public:
 
     uint64_t calls() const { return sum; }
 
-    // Prints all. False, where it must be complete and an answer that 01's table allows never came up: so much was
-    // not tested.
+    // Prints all. False, where it must be complete and an answer that 01 or 02 allows never came up: so much was not
+    // tested.
     bool print(bool must_be_complete) const {
         size_t missing = 0;
         std::cout << "answered";
@@ -284,7 +319,7 @@ public:
         }
         std::cout << '\n';
         if (missing == 0 || !must_be_complete) return true;
-        std::cout << "compare: " << missing << " answers that 01 allows never came up\n";
+        std::cout << "compare: " << missing << " answers that 01 and 02 allow never came up\n";
         return false;
     }
 

@@ -145,18 +145,19 @@ private:
     size_t taken = 0;
 };
 
-// What stands behind `->`. The bytes of a buffer behind the name stay.
+// What stands behind `->`. The bytes of a buffer behind the name or the list stay.
 Answer taken_answer(const Call& call, Words& words) {
     Answer answer;
     answer.number = static_cast<uint32_t>(words.take_number(0, last_refusal));
     if (call.kind == Kind::next) answer.letters = words.take_number(0, (uint64_t{1} << letters.size()) - 1);
     words.take_into(answer.value);
     if (call.kind == Kind::ask) words.take_into(answer.followed);
-    answer.buffer.assign(call.buffer_length, untouched);
-    if (call.kind == Kind::nth && answer.number == 0) {
-        const std::string name = bytes_of(words.take("the name"));
-        if (name.size() != answer.value) throw Unreadable("the name has not so many letters");
-        answer.buffer.replace(0, name.size(), name);
+    answer.buffer = buffer_before(call);
+    if (writes_to_buffer(call.kind) && answer.number == 0) {
+        const std::string written = bytes_of(words.take("the name or the list"));
+        if (written.size() != answer.value) throw Unreadable("the name or the list has not so many bytes");
+        if (written.size() > call.buffer_length) throw Unreadable("the buffer has not so many bytes");
+        answer.buffer.replace(0, written.size(), written);
     }
     return answer;
 }

@@ -16,13 +16,6 @@
 
 namespace {
 
-// A line that can be read, also where a list has thousands of names.
-std::string brief(const Call& call) {
-    constexpr size_t most = 200;
-    const std::string line = shown(call);
-    return line.size() <= most ? line : line.substr(0, most) + " ..";
-}
-
 class ScriptRun {
 public:
     void run(const std::string& its_file) {
@@ -71,12 +64,13 @@ private:
             trial.change(call);
             return "";
         }
-        if (trial.is_over()) return brief(call) + ", but `many names` is not said and the sets cannot hold these lists";
+        const std::string line = brief(shown(call));
+        if (trial.is_over()) return line + ", but `many names` is not said and the sets cannot hold these lists";
         const std::string by_sets = trial.make(call, trial.expected(call));
         const std::string answer = shown(trial.last_answer(), call.kind);
         const std::string stored = shown(*call.stored, call.kind);
-        const std::string difference = (answer == stored ? "" : ", stored " + stored) + by_sets;
-        if (!difference.empty()) return brief(call) + " -> " + answer + difference;
+        const std::string difference = (answer == stored ? "" : ", stored " + brief(stored)) + by_sets;
+        if (!difference.empty()) return line + " -> " + brief(answer) + difference;
         tally.note(call.kind, trial.last_answer().number);
         return "";
     }

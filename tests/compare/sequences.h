@@ -17,9 +17,11 @@
 #include <array>
 #include <cstddef>
 #include <cstdint>
+#include <deque>
 #include <numeric>
 #include <string>
 #include <string_view>
+#include <utility>
 #include <vector>
 
 namespace {
@@ -93,12 +95,20 @@ private:
         journal.add(trial.lines_of(call, expected) + '\n');
         if (!trial.make(call, expected).empty()) return false;
         tally.note(call.kind, expected.number);
+        if (call.kind == Kind::write && expected.number == 0) plan_to_take_back();
         return true;
     }
 
-    static Call call_of(Kind kind, uint32_t mission, const std::string& bytes) {
+    static Call call_of(Kind kind, uint32_t mission, const std::string& bytes, const std::string& second = "") {
         Call call{kind, mission};
         call.bytes = bytes;
+        call.second = second;
+        return call;
+    }
+
+    static Call write_of(uint32_t mission, size_t buffer_length) {
+        Call call{Kind::write, mission};
+        call.buffer_length = static_cast<uint32_t>(buffer_length);
         return call;
     }
 
@@ -139,6 +149,7 @@ private:
             calls.push_back(call_of(Kind::rank, mission, random.word(first_three, 3)));
             calls.push_back({Kind::nth, mission, 0, 0, 0, 59999, longest_name});
             calls.push_back({Kind::nth, mission, 0, 0, 0, 70000, longest_name});
+            calls.push_back(write_of(mission, random.one_of(std::vector<size_t>{0, longest_list, 400000})));
         };
         count_names(0);
         count_names(1);
@@ -150,22 +161,63 @@ private:
         return calls;
     }
 
-    // A list that needs 1,001 states and one that needs 1,000.
+    // A list that needs 1,001 states and one that needs 1,000, as one list and as two.
     std::vector<Call> lists_for_the_whole_room() {
         const Names over = random.list_needing(1001, own_letters, longest_name);
         const Names just = random.list_needing(1000, own_letters, longest_name);
-        return {call_of(Kind::load, 0, list_of_names(over)), call_of(Kind::load, 0, list_of_names(just))};
+        const auto [over_first, over_second] = in_two_lists(over);
+        const auto [just_first, just_second] = in_two_lists(just);
+        return {call_of(Kind::load, 0, list_of_names(over)),
+                call_of(Kind::load_two, 0, list_of_names(over_first), list_of_names(over_second)),
+                call_of(Kind::load, 0, list_of_names(just)),
+                {Kind::clear},
+                call_of(Kind::load_two, 0, list_of_names(just_first), list_of_names(just_second))};
     }
 
-    // A list of 65,536 bytes and one of 65,535, which is 13,107 words of four letters.
+    // A list of 65,536 bytes and one of 65,535, which is 13,107 words of four letters; beside it another such list, of
+    // the last of all these words. Then words of three letters that are 65,536 bytes, and one word less.
     std::vector<Call> longest_lists() {
         const std::string_view few = letters.substr(0, random.between(12, 16));
-        const std::string just = list_of_names(words_by(Places(4, few))).substr(0, longest_list);
+        const std::string all = list_of_names(words_by(Places(4, few)));
+        const std::string just = all.substr(0, longest_list);
+        const std::string other = all.substr(all.size() - longest_list);
         const std::string over = just.substr(0, longest_list - 1) + letters[0] + '\n';
-        return {call_of(Kind::load, 0, over), call_of(Kind::load, 0, just)};
+        const Names short_words = words_by(Places(3, letters), (longest_list + 1) / 4);
+        const auto [first, second] = in_two_lists(short_words);
+        return {call_of(Kind::load, 0, over),
+                call_of(Kind::load_two, 0, over, ""),
+                call_of(Kind::load_two, 0, just, over),
+                call_of(Kind::load, 0, just),
+                write_of(0, longest_list - 1),
+                write_of(0, longest_list),
+                call_of(Kind::load_two, 1, just, other),
+                write_of(1, 2 * longest_list),
+                call_of(Kind::load_two, 2, list_of_names(first), list_of_names(second)),
+                write_of(2, longest_list + 1),
+                call_of(Kind::remove, 2, random.one_of(short_words)),
+                write_of(2, longest_list + 1)};
+    }
+
+    // "as bytes that load takes back": what was written is loaded into another list, mostly an empty one, or into
+    // another book, by one call or the other; and what that list is then is written, too.
+    void plan_to_take_back() {
+        if (!planned.empty() || random.chance(50)) return;
+        const Answer& answer = trial.last_answer();
+        const std::string written = answer.buffer.substr(0, answer.value);
+        const auto [first, second] = in_two_lists(*names_of_list(written));
+        const uint32_t receiver = any_receiver();
+        if (random.chance(30)) planned.push_back({Kind::empty});
+        if (random.chance(50)) planned.push_back(call_of(Kind::load, receiver, written));
+        else planned.push_back(call_of(Kind::load_two, receiver, list_of_names(first), list_of_names(second)));
+        planned.push_back(write_of(receiver, written.size() + random.below(3)));
     }
 
     Call any_call() {
+        if (!planned.empty()) {
+            const Call call = planned.front();
+            planned.pop_front();
+            return call;
+        }
         const Known& known = trial.knowledge();
         if (damaged && known.sound && random.chance(7)) return any_damage();
         if (!known.sound && random.chance(7)) return random.chance(30) ? Call{Kind::empty} : damage_to(last_sound);
@@ -183,8 +235,8 @@ private:
     // In a sound book most calls change lists; elsewhere ask and next are those that answer.
     Kind any_kind() {
         using Shares = std::array<size_t, book_calls.size()>;  // in the order of Kind
-        const Shares changing = {1, 4, 14, 12, 100, 36, 4, 20, 26, 8, 12, 20, 4};
-        const Shares reading = {1, 1, 12, 8, 1, 1, 1, 1, 1, 1, 1, 1, 1};
+        const Shares changing = {1, 4, 14, 12, 100, 36, 6, 20, 24, 26, 8, 12, 20, 16, 4};
+        const Shares reading = {1, 1, 12, 8, 1, 1, 1, 1, 1, 1, 1, 1, 1, 1, 1};
         const Shares& shares = is_usual() && trial.knowledge().sound ? changing : reading;
         size_t drawn = random.below(std::accumulate(shares.begin(), shares.end(), size_t{0}));
         size_t kind = 0;
@@ -194,10 +246,20 @@ private:
 
     Call with_arguments(Call call) {
         const auto has = [&](uint32_t number) { return may_be_refused_by(number, call.kind); };
-        if (has(2)) call.mission = call.kind == Kind::load ? any_receiver() : any_mission();
+        const bool loads = call.kind == Kind::load || call.kind == Kind::load_two;
+        if (has(2)) call.mission = loads ? any_receiver() : any_mission();
         if (has(4)) call.bytes = call.kind == Kind::next ? any_prefix() : any_name(call.kind);
         if (call.kind == Kind::ask && random.chance(40)) call.bytes = leaving_name(list(call.mission));
-        if (call.kind == Kind::load) call.bytes = any_list();
+        if (call.kind == Kind::load) call.bytes = list_of(any_names(), 15);
+        if (call.kind == Kind::load_two) {
+            const auto [first, second] = any_two();
+            call.bytes = list_of(first, 8);
+            call.second = list_of(second, 8);
+        }
+        if (call.kind == Kind::write) {
+            const size_t bytes = list_of_names(list(call.mission)).size();
+            call.buffer_length = static_cast<uint32_t>(any_length_for(bytes));
+        }
         if (call.kind == Kind::combine) {
             call.b = any_mission();
             call.c = any_receiver();
@@ -236,6 +298,18 @@ private:
             case 2: return count + 1;
             case 3: return random.one_of(std::vector<uint32_t>{60000, 65536, 0x7FFFFFFF, 0x80000000, 0xFFFFFFFF});
             default: return static_cast<uint32_t>(random.below(std::max<size_t>(count, 1)));
+        }
+    }
+
+    // The length of a buffer for so many bytes.
+    size_t any_length_for(size_t bytes) {
+        switch (random.below(10)) {
+            case 0: return 0;
+            case 1: return random.below(bytes + 1);
+            case 2: return std::max<size_t>(bytes, 1) - 1;
+            case 3: return bytes + 1;
+            case 4: return bytes + random.below(random.chance(20) ? 2 * longest_list : 100);
+            default: return bytes;
         }
     }
 
@@ -283,9 +357,56 @@ private:
         }
     }
 
-    std::string any_list() {
-        const std::string good = list_of_names(any_names());
-        return random.chance(15) && !good.empty() ? bad_list(good) : good;
+    // The names as load takes them, or what is no list.
+    std::string list_of(const Names& names, size_t percent_bad) {
+        const std::string good = list_of_names(names);
+        return random.chance(percent_bad) ? bad_list(good) : good;
+    }
+
+    using TwoLists = std::pair<Names, Names>;
+
+    // Two lists that have these names together. Where a name stands goes by one rule up to any place and by another
+    // behind it: so they may be equal, without a common name, by turns, one the front or the end of the other, with
+    // common names only at the start or only at the end; and one of them may be empty.
+    TwoLists in_two_lists(const Names& names) {
+        const size_t cut = random.below(names.size() + 1);
+        const size_t rule_before = random.below(6);
+        const size_t rule_behind = random.below(6);
+        TwoLists two;
+        size_t place = 0;
+        for (const std::string& name : names) {
+            const size_t lists = lists_of_name(place < cut ? rule_before : rule_behind, place);
+            if (lists % 2 == 1) two.first.insert(two.first.end(), name);
+            if (lists >= 2) two.second.insert(two.second.end(), name);
+            ++place;
+        }
+        return two;
+    }
+
+    // 1 the first, 2 the second, 3 both.
+    size_t lists_of_name(size_t rule, size_t place) {
+        switch (rule) {
+            case 0: return 1;
+            case 1: return 2;
+            case 2: return 3;
+            case 3: return 1 + place % 2;
+            case 4: return random.between(1, 2);
+            default: return random.between(1, 3);
+        }
+    }
+
+    // The names of the second may also be fronts of the first's, or have nothing to do with them.
+    TwoLists any_two() {
+        TwoLists two = in_two_lists(any_names());
+        const size_t drawn = random.below(100);
+        if (drawn < 20) {
+            two.second = any_names();
+        } else if (drawn < 35) {
+            two.second.clear();
+            for (const std::string& name : two.first) two.second.insert(name.substr(0, random.between(1, name.size())));
+        }
+        if (random.chance(50)) std::swap(two.first, two.second);
+        return two;
     }
 
     Names any_names() {
@@ -306,6 +427,7 @@ private:
     }
 
     std::string bad_list(std::string list) {
+        if (list.empty()) return random.chance(50) ? "\n" : own_word();
         const size_t at = random.below(list.size());
         const size_t last_line = list.rfind('\n', list.size() - 2) + 1;  // 0, if there is one line
         switch (random.below(6)) {
@@ -326,6 +448,7 @@ private:
     size_t longest;           // of its names
     bool damaged;
     Numbers last_sound = {};
+    std::deque<Call> planned = {};
 };
 
 }  // namespace

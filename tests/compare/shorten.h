@@ -58,6 +58,7 @@ private:
 
     void shorten_call(size_t i) {
         leave_out([i](Script& script) -> auto& { return script.calls[i].bytes; }, longest_name);
+        leave_out([i](Script& script) -> auto& { return script.calls[i].second; }, longest_name);
         leave_out([i](Script& script) -> auto& { return script.calls[i].changes; });
         for (const auto number : {&Call::mission, &Call::b, &Call::c, &Call::operation, &Call::n}) {
             lower([i, number](Script& script) -> auto& { return script.calls[i].*number; });
@@ -147,7 +148,7 @@ void print_script(const Script& script, Fault fault) {
         const std::string difference = trial.make(call, expected);
         const std::string answer = shown(trial.last_answer(), call.kind);
         const bool is_same = answer == shown(expected, call.kind);
-        if (!difference.empty()) std::cout << "   # the library: " << answer << (is_same ? difference : "");
+        if (!difference.empty()) std::cout << "   # the library: " << brief(answer) << (is_same ? difference : "");
         std::cout << '\n';
     }
 }

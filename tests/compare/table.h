@@ -18,7 +18,14 @@
 namespace {
 
 using Numbers = std::vector<uint16_t>;
-using Sizes = std::array<size_t, missions>;
+
+// How many names a list has, and how many bytes it is as load takes it.
+struct Size {
+    size_t names = 0;
+    size_t bytes = 0;
+};
+
+using Sizes = std::array<Size, missions>;
 
 constexpr size_t row_length = 40;
 constexpr size_t first_target = 2;
@@ -73,15 +80,18 @@ public:
         return 0;
     }
 
-    // How many names each list has in a sound book; `most` and one for all that have more.
+    // The size of each list in a sound book; `most` and one for all names and all bytes that are more.
     Sizes sizes_of_lists(size_t most) const {
         std::vector<size_t> rows = rows_in_use();
         std::sort(rows.begin(), rows.end(), [&](size_t row, size_t other) { return height(row) < height(other); });
-        std::vector<size_t> words(k);  // that are accepted from each row; row 0 stands for no row
+        std::vector<Size> words(k);  // that are accepted from each row; row 0 stands for no row
         for (const size_t row : rows) {
-            words[row] = mark(row) == 2 ? 1 : 0;
+            Size& size = words[row];
+            if (mark(row) == 2) size = {1, 1};
             for (size_t x = 0; x < letters.size(); ++x) {
-                words[row] = std::min(words[row] + words[target(row, x)], most + 1);
+                const Size& behind = words[target(row, x)];  // each of its words gets a letter more
+                size.names = std::min(size.names + behind.names, most + 1);
+                size.bytes = std::min(size.bytes + behind.bytes + behind.names, most + 1);
             }
         }
         Sizes sizes;

@@ -100,7 +100,7 @@ private:
         known.sound = table().broken_rule() == 0;
         if (!known.sound) return;
         const Sizes sizes = table().sizes_of_lists(most_held);
-        too_many = *std::max_element(sizes.begin(), sizes.end()) > most_held;
+        too_many = std::any_of(sizes.begin(), sizes.end(), [](const Size& size) { return size.names > most_held; });
         if (known.sizes) known.sizes = sizes;
         if (known.sizes || too_many) return;
         for (uint32_t mission = 0; mission < missions; ++mission) {
@@ -112,22 +112,27 @@ private:
         const Answer& answer = made.answer;
         const auto told = [](const Answer& a) { return std::tie(a.number, a.value, a.followed, a.letters); };
         const std::string by = known.sizes ? ", by the table and what is stored " : ", by the sets ";
-        if (told(answer) != told(expected)) return by + shown(expected, call.kind);
+        if (told(answer) != told(expected)) return by + brief(shown(expected, call.kind));
         // "On a sound book these are the plain set answers": the walk finds them, too.
         if (works_on_any_numbers(call.kind) && answer.number == 0) {
             const Answer walked = walked_answer(call, table());
             if (told(answer) != told(walked)) return ", by the walk " + shown(walked, call.kind);
         }
-        if (answer.buffer != expected.buffer) {
-            return ", but the buffer is " + shown(answer.buffer) + by + shown(expected.buffer);
-        }
+        if (answer.buffer != expected.buffer) return other_byte(answer.buffer, expected.buffer);
         if (!made.stayed_inside) return ", but the call wrote where it must not";
         if (call.kind == Kind::empty && answer.number == 0) return other_than(Numbers(before.size()));
         return table_stays(call.kind) ? other_than(before) : read_back();
     }
 
+    // The buffers have one length.
+    static std::string other_byte(const std::string& is, const std::string& should) {
+        const auto [wrong, right] = std::mismatch(is.begin(), is.end(), should.begin());
+        return ", but then byte " + std::to_string(wrong - is.begin()) + " of the buffer is " +
+               shown(std::string(1, *wrong)) + " and not " + shown(std::string(1, *right));
+    }
+
     // "A refusal ... changes no number of the table". So does a change that is none: 01 says it of add and remove,
-    // the library promises it of clear, load and combine, too.
+    // the library promises it of clear, the loads and combine, too.
     bool table_stays(Kind kind) const {
         return made.answer.number != 0 || !changes_a_list(kind) || made.answer.value == 0;
     }

@@ -37,6 +37,12 @@ std::string shown(const std::string& bytes) {
     return bytes.empty() ? "\"\"" : text;
 }
 
+// A text that can be read, also where a list has thousands of names.
+std::string brief(const std::string& text) {
+    constexpr size_t most = 200;
+    return text.size() <= most ? text : text.substr(0, most) + " ..";
+}
+
 std::string shown(const Call& call) {
     std::string line = book_call(call.kind).word;
     for (const Argument& argument : book_call(call.kind).arguments) {
@@ -46,13 +52,13 @@ std::string shown(const Call& call) {
 }
 
 // What stands behind `->`: "`-> NUMBER VALUE`", ask "`-> NUMBER VALUE FOLLOWED`", next "`-> NUMBER LETTERS COUNT`",
-// nth "and the name where it is done".
+// nth "and the name where it is done", write "and the list where it is done".
 std::string shown(const Answer& answer, Kind kind) {
     std::string text = std::to_string(answer.number);
     if (kind == Kind::next) text += ' ' + std::to_string(answer.letters);
     text += ' ' + std::to_string(answer.value);
     if (kind == Kind::ask) text += ' ' + std::to_string(answer.followed);
-    if (kind == Kind::nth && answer.number == 0) text += ' ' + shown(answer.buffer.substr(0, answer.value));
+    if (writes_to_buffer(kind) && answer.number == 0) text += ' ' + shown(answer.buffer.substr(0, answer.value));
     return text;
 }
 
