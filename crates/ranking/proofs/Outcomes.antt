@@ -1,20 +1,21 @@
--- What the calls share on their way to an outcome: the mission's list, the test of the number of its names, and what nth leaves in the buffer. Assumes nothing.
-use Prim.Native.Nat.{ℕ, _≤_, _<_}
+-- What the calls share on their way to an outcome: the mission's list, the tests of the number of its names and of its bytes, and what
+-- nth and write leave in the buffer. Assumes nothing.
+use Prim.Native.Nat.{ℕ, suc, _≤_, _<_, min}
 use native.Mathlib.Omega.{arith}
-use mathlib.Core.Path.{_≡_, refl}
+use mathlib.Core.Path.{_≡_}
 use mathlib.Core.Bool.{true, false}
 use mathlib.Core.List.{List, []}
 use lib.Dec.{ltb}
 use lib.ListN.{length}
 use borrow.Author.Tests.{lt-ltb, le-ltb}
-use Rattle.letters.specs.Words.{Word, bytesOf}
 use Rattle.letters.specs.Names.{longest}
+use Rattle.letters.specs.Lists.{longestList, lines}
 use Rattle.sets.specs.Cut.{mostNames, cut}
 use Rattle.sets.proofs.Membership.{getD-in, each-in}
 use Rattle.model.specs.Lists.{missions, listOf, nthOf}
 use Rattle.model.specs.Call.{Call, overlaid}
-use Rattle.model.specs.Call.Call.{nth}
-use Rattle.model.specs.Run.{refused, run}
+use Rattle.model.specs.Rules.{puts}
+use Rattle.model.specs.Run.{refused}
 use Rattle.rows.specs.Table.{Table, start}
 use Rattle.rows.specs.Words.{words, names, lists}
 use Rattle.rows.proofs.Words.{words-short}
@@ -23,7 +24,7 @@ use Rattle.answers.specs.declared.cases.Refusal.{Refusal}
 use Rattle.answers.specs.declared.cases.Answer.the-variants as answer
 use Rattle.answers.specs.Replies.{refusalNumber, answerReply}
 use Rattle.promises.specs.Books.{bookOf}
-use Rattle.promises.specs.Promises.{Promised}
+use Rattle.promises.specs.Promises.{outcomeOf, Leaves, Promised}
 
 -- the mission's list is the words of its start
 pub list-words : (t : Table) (m r : ℕ) → m < missions → r ≡ start t m → listOf (lists t) m ≡ words t r
@@ -40,19 +41,26 @@ module _ (t : Table) (m k : ℕ) (h : m < missions) (e : k ≡ cut (length (name
   pub names-exact : k ≤ mostNames → k ≡ length (listOf (lists t) m)
   names-exact under = rw (list-names t m h) (omega arith)
 
+-- "over 65,535 bytes are needed", by the number of bytes, cut
+module _ (t : Table) (m k : ℕ) (h : m < missions) (e : k ≡ min (length (lines (names t m))) (suc longestList)) where
+  pub bytes-over : longestList < k → ltb longestList (length (lines (listOf (lists t) m))) ≡ true
+  bytes-over over = rw (list-names t m h) (lt-ltb longestList (length (lines (names t m))) (omega arith))
+
+  pub bytes-under : k ≤ longestList → ltb longestList (length (lines (listOf (lists t) m))) ≡ false
+  bytes-under under = rw (list-names t m h) (le-ltb longestList (length (lines (names t m))) (omega arith))
+
+  pub bytes-exact : k ≤ longestList → k ≡ length (lines (listOf (lists t) m))
+  bytes-exact under = rw (list-names t m h) (omega arith)
+
 pub name-short : (t : Table) (r n : ℕ) → n < length (words t r) → length (nthOf n (words t r)) ≤ longest
 name-short t r n h = each-in _ (words-short t r) (getD-in [] (words t r) n h)
 
--- nth refused leaves the buffer, and nth done writes the name
-module _ (t : Table) (m n : ℕ) (before : List ℕ) where
-  abbrev nth-call : Call
-  nth-call = nth m n (length before)
+-- a call refused leaves the buffer, and a call done writes its bytes
+module _ (t : Table) (call : Call) (before : List ℕ) (leaves : Leaves t t call) where
+  pub put-refused : (r : Refusal) → outcomeOf t call ≡ refused (refusalNumber r) (bookOf t)
+      → Promised t t before before call (answerReply (answer.Refused r))
+  put-refused r e = record { answers = rw e; buffer = rw e; table = leaves }
 
-  pub nth-refused : (r : Refusal) → run (bookOf t) nth-call ≡ refused (refusalNumber r) (bookOf t)
-      → Promised t t before before nth-call (answerReply (answer.Refused r))
-  nth-refused r e = record { answers = rw e; buffer = rw e; table = refl }
-
-  pub nth-done : (after : List ℕ) (k : ℕ) (w : Word)
-      → run (bookOf t) nth-call ≡ record { number = 0; value = length w; second = 0; written = bytesOf w; lists = lists t }
-      → k ≡ length w → after ≡ overlaid (bytesOf w) before → Promised t t before after nth-call (answerReply (answer.Done k))
-  nth-done after k w e long written = record { answers = rw (e, long); buffer = rw e written; table = refl }
+  pub put-done : (after : List ℕ) (k value : ℕ) (bytes : List ℕ) → outcomeOf t call ≡ puts (bookOf t) bytes value → k ≡ value
+      → after ≡ overlaid bytes before → Promised t t before after call (answerReply (answer.Done k))
+  put-done after k value bytes e long written = record { answers = rw (e, long); buffer = rw e written; table = leaves }

@@ -1,9 +1,12 @@
-// The calls that count names: count, rank and nth. After the first tests each counts the words from the rows
-// that the mission's list reaches; by these numbers a name's rank and the n-th name are found letter by letter.
+// The calls that count names: count, rank, nth and write. After the first tests each counts the words from the
+// rows that the mission's list reaches; by these numbers a name's rank, the n-th name, and the bytes of the whole
+// list are found.
 mod counts;
+mod lists;
 mod ranks;
 mod writes;
 
 pub use counts::count;
+pub use lists::write;
 pub use ranks::rank;
 pub use writes::nth;

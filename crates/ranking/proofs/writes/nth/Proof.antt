@@ -1,5 +1,5 @@
 -- `nth` meets its promise: its first tests refuse it, or leave a sound book, a mission and a buffer that is long enough. Assumes nothing.
-use mathlib.Core.Path.{sym, _∙_}
+use mathlib.Core.Path.{refl, sym, _∙_}
 use borrow.Author.Needs.{needs}
 use borrow.Author.Tests.{leb-true}
 use lib.Dec.{leb}
@@ -12,7 +12,7 @@ use Rattle.answers.specs.declared.cases.Refusal.the-variants.{Buffer}
 use Rattle.promises.specs.Books.{bookOf}
 use Rattle.admitting.specs.Admission.{ifFine, firstTests}
 use Rattle.admitting.proofs.Admitting.{fine-true, first-begins, admitted, refused-first}
-use Rattle.ranking.proofs.Outcomes.{nth-refused}
+use Rattle.ranking.proofs.Outcomes.{put-refused}
 use Rattle.ranking.proofs.writes.nth.Statement.{statement}
 use Rattle.ranking.proofs.writes.nth.Tie as tie
 
@@ -50,7 +50,7 @@ returns-2 c =
     let call = nth (args .m) (args .n) size in
     let fine = leb longest size in
     let more = drop 4 (rule b call .refusals) in
-    nth-refused _ _ _ _ (c .before .r .given .0 .0)
+    put-refused _ call _ refl (c .before .r .given .0 .0)
     (refused-first b (rule b call) (firstTests b (args .m) (ifFine fine Buffer)) more (rw (over-most longest size) (first-begins b (args .m) fine Buffer more))
     (c .before .r .given .1) (rw (tested .before .if-fine .ensures) at (tested .admit .ensures)))
 

@@ -6,15 +6,16 @@ use native.Mathlib.Omega.{arith}
 use borrow.Author.Needs.{needs}
 use borrow.Author.Tests.{le-ltb, le-leb, lt-leb}
 use lib.ListN.{length}
-use Rattle.letters.specs.Words.{Word}
+use Rattle.letters.specs.Words.{Word, bytesOf}
 use Rattle.model.specs.Lists.{nthOf}
+use Rattle.model.specs.Call.Call.{nth}
 use Rattle.model.specs.Run.{run}
 use Rattle.model.proofs.Refusals.{mission-under}
 use Rattle.rows.specs.Words.{words}
 use Rattle.rows.proofs.Rules.{sound-facts, sound-length}
 use Rattle.answers.specs.declared.cases.Refusal.the-variants.{TooMany, NotUnder}
 use Rattle.listing.proofs.Steps.{start-listable}
-use Rattle.ranking.proofs.Outcomes.{list-words, names-over, names-under, names-exact, name-short, nth-refused, nth-done}
+use Rattle.ranking.proofs.Outcomes.{list-words, names-over, names-under, names-exact, name-short, put-refused, put-done}
 use Rattle.ranking.proofs.writes.nth_in_list.Statement.{statement}
 use Rattle.ranking.proofs.writes.nth_in_list.Tie as tie
 
@@ -32,7 +33,7 @@ returns c =
     let first = c .before .before .before .before .before .before in
     let (s, h, long) = first .pre in
     let number = c .before .before .count-names .ensures .1 in
-    nth-refused _ _ _ _ TooMany (rw (sound-length _ s, mission-under _ h, le-ltb _ _ long, s, names-over (first .args .t .now) (first .args .m) _ h number (omega arith)))
+    put-refused _ (nth _ _ _) _ refl TooMany (rw (sound-length _ s, mission-under _ h, le-ltb _ _ long, s, names-over (first .args .t .now) (first .args .m) _ h number (omega arith)))
 
 cast-if2 : tie.Need-cast-if2
 cast-if2 c = search needs
@@ -43,7 +44,7 @@ returns-2 c =
     let first = c .before .before .before .before .before .before .before in
     let (s, h, long) = first .pre in
     let number = c .before .before .before .count-names .ensures .1 in
-    nth-refused _ _ _ _ NotUnder
+    put-refused _ (nth _ _ _) _ refl NotUnder
     (rw (
       sound-length _ s,
       mission-under _ h,
@@ -98,7 +99,7 @@ returns-3 c =
     let (s, h, long) = first .pre in
     let number = started .before .before .before .before .count-names .ensures .1 in
     let w : Word = nthOf (first .args .n) (words (first .args .t .now) (started .start .result)) in
-    nth-done _ _ _ _ _ _ w
+    put-done _ (nth _ _ _) _ refl _ _ (length w) (bytesOf w)
     (rw (
       sound-length _ s,
       mission-under _ h,
