@@ -7,12 +7,13 @@ use native.Mathlib.Decide.{decLt}
 use mathlib.Core.Path.{_≡_, refl, _∙_}
 use mathlib.Core.Bool.{Bool, true, false, cond}
 use mathlib.Core.Logic.{inl, inr}
-use mathlib.Core.List.{List, [], _∷_}
+use mathlib.Core.List.{List, [], _∷_, _++_}
 use borrow.Author.Tests.{le-ltb}
 use denote.Enum.Declared.{tagOf}
 use types.Run.{OneOf}
 use lib.ListN.{length, replicate, length-append, length-map, length-drop}
 use Rattle.letters.specs.Each.{Each}
+use Rattle.letters.specs.Letters.{lineEnd}
 use Rattle.letters.specs.Words.{Word, wordOf, order}
 use Rattle.letters.specs.Lists.{longestList, line, lines}
 use Rattle.letters.proofs.Loaded.{line-long, lines-long}
@@ -33,7 +34,7 @@ use Rattle.rows.proofs.Rules.{sound-length}
 use Rattle.promises.specs.Books.{bookOf}
 use Rattle.promises.specs.Promises.{outcomeOf}
 use Rattle.promises.proofs.Outcomes.{ruled-either}
-use Rattle.printing.specs.Printed.{field, answerLine, spare}
+use Rattle.printing.specs.Printed.{field}
 use Rattle.printing.proofs.Decimal.{field-short}
 use Rattle.lines.specs.declared.requests.Kind.{Kind}
 use Rattle.lines.specs.declared.requests.Kind.the-variants.{Add, Remove, Ask, Count}
@@ -63,9 +64,9 @@ with-name w (v ∷ vs) = go (with-name w vs) (order w v)
   where
     go : length (lines (insert w vs)) ≤ length (lines vs) + length (line w) → (o : Ordering)
         → length (lines (put o w v vs (insert w vs))) ≤ length (lines (v ∷ vs)) + length (line w)
-    go rest Ordering·lt = simp length-append (omega arith)
+    go rest Ordering·lt = omega (arith, length-append (line w) (lines (v ∷ vs)))
     go rest Ordering·eq = omega arith
-    go rest Ordering·gt = simp length-append (omega arith)
+    go rest Ordering·gt = omega (arith, length-append (line v) (lines (insert w vs)), length-append (line v) (lines vs))
 
 some-names : (test : Word → Bool) (l : Words) → length (lines (keep test l)) ≤ length (lines l)
 unfolding lines keep
@@ -137,9 +138,6 @@ module _ (t : Table) (s : sound t ≡ true) (text : List ℕ) (n at size : ℕ) 
     short : length (lines l) ≤ at
     short = held-list (lists t) held m
 
-    answer-short : length (answerLine text 0 (length l)) ≤ length text + spare
-    answer-short = simp length-append (omega (arith, field-short 0 (omega arith), field-short (length l) (omega (arith, short, lines-long l))))
-
     count-done : m < missions → run (bookOf t) (count m) ≡ answers (bookOf t) (length l)
     count-done h =
         run-ruled (bookOf t) (count m)
@@ -156,13 +154,23 @@ module _ (t : Table) (s : sound t ≡ true) (text : List ℕ) (n at size : ℕ) 
     write-refused : missions ≤ m → (k : ℕ) → run (bookOf t) (write m k) ≡ refused 2 (bookOf t)
     write-refused h k = run-ruled (bookOf t) (write m k) ∙ rw (sound-length t s, mission-over m h)
 
-    counted : writtenBehind (bookOf t) (request.Call Count m) (size - length (said (outcomeOf t) text n (request.Call Count m)))
-        ≡ lines (namesBehind (bookOf t) (request.Call Count m))
+    -- so many bytes are left behind the answer
+    abbrev rest : ℕ
+    rest = size - length (said (outcomeOf t) text n (request.Call Count m))
+
+    fits : m < missions → length (lines l) ≤ rest
+    fits h =
+        let answer = length-append text (field 0 ++ field (length l) ++ lineEnd ∷ []) in
+        let fields = simp length-append at answer in
+        rw (count-done h)
+        (omega (arith, fields, field-short 0 (omega arith), field-short (length l) (omega (arith, short, lines-long l)), short))
+
+    counted : writtenBehind (bookOf t) (request.Call Count m) rest ≡ lines (namesBehind (bookOf t) (request.Call Count m))
     unfolding lines
     counted =
         elim (decLt m missions) [
-          | yes h ↦ rw (count-done h, write-done h (size - length (answerLine text 0 (length l))) (omega (arith, answer-short, short)))
-          | no h ↦ rw (count-refused (omega arith), write-refused (omega arith) _)
+          | yes h ↦ rw (write-done h rest (fits h), count-done h)
+          | no h ↦ rw (write-refused (omega arith) rest, count-refused (omega arith))
         ]
 
   behind-all : (asked : Request) → writtenBehind (bookOf t) asked (size - length (said (outcomeOf t) text n asked)) ≡ lines (namesBehind (bookOf t) asked)

@@ -5,7 +5,7 @@ use Prim.Native.Nat.{ℕ, _+_, _≤_, _<_}
 use native.Mathlib.Numerals.{add-one}
 use native.Mathlib.Omega.{arith}
 use native.Mathlib.Decide.{decLt}
-use mathlib.Core.Path.{_≡_, refl, sym, _∙_, ap, ap₂}
+use mathlib.Core.Path.{_≡_, refl, sym, _∙_, ap, ap₂, subst}
 use mathlib.Core.Bool.{false}
 use mathlib.Core.List.{List, [], _∷_, _++_, append-assoc, append-nil}
 use borrow.Author.Tests.{le-leb, lt-leb, ne-eqb, not-false}
@@ -24,7 +24,7 @@ use Rattle.lines.specs.declared.steps.Stage.the-variants.{Over, Long, Fi
 use Rattle.lines.specs.Requests.{requestOf}
 use Rattle.lines.specs.Steps.{deskNumbers, mostInput, tooLong, mostOutput, beginning, overAfter, lineAt, ready, stageText, Does, Steps}
 use Rattle.lines.specs.Sessions.{prints, inputSize, Taken, StepsFrom, output}
-use Rattle.lines.proofs.Following.{held-none, held-after, all-written}
+use Rattle.lines.proofs.Following.{Held, held-none, held-after, all-written}
 use Rattle.lines.proofs.Kept.{line-kept}
 use Rattle.lines.proofs.Places.{Stands, stands-apart, stands-ready, left, left-first, left-lines}
 use Rattle.lines.proofs.Stages.{Ready, Lines, by-stage, desk-length, stepText, step-written}
@@ -96,7 +96,7 @@ module _ (t after : Table) (input : List ℕ) (place : Place) (before filled : L
               short = stands .short;
               numbered = omega (arith, stands .numbered);
               bounded = omega (arith, stands .numbered, l .short);
-              held = λ some. rw (k .names, on) (held-after (bookOf t) text (place .at) held (requestOf text));
+              held = λ some. subst (λ (n : ℕ). Held n (lists after)) (sym on) (rw (k .names) (held-after (bookOf t) text (place .at) held (requestOf text)));
             });
         front =
             rw (p .next)
