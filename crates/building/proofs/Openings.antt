@@ -1,11 +1,11 @@
 -- The letters that a name begins with, and how deep a name is in the group of some letters: it begins with them exactly if it is one deeper than
 -- they are many. Behind a group, the next name does not begin with the group's letters; so it shares as many with them as with all but the last,
 -- and its depth is handed on from group to group. Assumes nothing.
-use Prim.Native.Nat.{ℕ, zero, suc, _+_, _≤_, _<_}
+use Prim.Native.Nat.{ℕ, suc, _+_, _≤_, _<_}
 use native.Mathlib.Omega.{arith}
 use native.Mathlib.Numerals.{add-one}
 use mathlib.Core.Path.{_≡_, refl, sym, ap, _∙_}
-use mathlib.Core.List.{List, [], _∷_, _++_, map-append, append-nil}
+use mathlib.Core.List.{List, [], _∷_, _++_, map-append}
 use lib.Dec.{eqb}
 use lib.ListN.{length, take, drop, getD, length-map, take-append-drop}
 use lib.Seq.{length-take-le, take-suc, take-all, take-at, drop-cons}

@@ -56,7 +56,13 @@ fn depth_of(name: &[u8], next: &[u8]) -> usize
 }
 
 // Where a group goes on: the first name may be the group's letters alone, and is then passed.
-pub fn first_ahead<'a>(first: &'a [u8], second: &'a [u8], at: Places, name: &'a [u8], depth: usize) -> Ahead
+pub fn first_ahead<'a>(
+    first: &'a [u8],
+    second: &'a [u8],
+    at: Places,
+    name: &'a [u8],
+    depth: usize,
+) -> Ahead
     requires { ⌜ Begins (now first) (now second) at (now name) depth ⌝ }
     ensures places { λ ahead. ⌜ ahead .places ≡ firstPlaces (now (first .entry)) (now (second .entry)) at (now (name .entry)) depth ⌝ }
     ensures deep { λ ahead. ⌜ Deep (now (first .entry)) (now (second .entry)) (opening (now (name .entry)) depth) ahead ⌝ }
@@ -69,14 +75,18 @@ pub fn first_ahead<'a>(first: &'a [u8], second: &'a [u8], at: Places, name: &'a 
     }
     let places = places_after(first, second, at);
     let deep = depth_of(name, next_part(first, second, places));
-    Ahead {
-        places,
-        deep,
-    }
+    Ahead { places, deep }
 }
 
-// The next name at some places, where the next one at `at` is known.
-pub fn next_at<'a>(first: &'a [u8], second: &'a [u8], at: Places, name: &'a [u8], places: Places) -> &'a [u8]
+// The next name at some places. The one at `at` is held already: it is not looked for again at each of its
+// letters.
+pub fn next_at<'a>(
+    first: &'a [u8],
+    second: &'a [u8],
+    at: Places,
+    name: &'a [u8],
+    places: Places,
+) -> &'a [u8]
     requires { ⌜ now name ≡ nextBytes (now first) (now second) at ⌝ }
     ensures { λ next. ⌜ now next ≡ nextBytes (now (first .entry)) (now (second .entry)) places ⌝ }
 {

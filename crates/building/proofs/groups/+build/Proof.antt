@@ -2,13 +2,12 @@
 -- and the index is that of the table, which every call that makes rows keeps up. The measure of the recursion is what a name may have of letters
 -- behind the shared ones, that of the loop the names that are left. Assumes nothing.
 use Prim.Native.Nat.{ℕ, _+_, _-_, _<_}
-use mathlib.Core.Path.{_≡_}
 use native.Mathlib.Omega.{arith}
 use borrow.Author.Needs.{needs}
 use borrow.Fn.Kinds.{In}
 use borrow.Fn.PlainCycle.{Measures, is, falls, and}
-use lib.ListN.{length, getD}
-use Rattle.letters.specs.Letters.{letters, letter}
+use lib.ListN.{length}
+use Rattle.letters.specs.Letters.{letters}
 use Rattle.letters.specs.Names.{longest}
 use Rattle.index.specs.Index.{Indexed}
 use Rattle.growing.specs.declared.makes.Made.the-variants.{Row, Full}
