@@ -1,55 +1,52 @@
--- Groups of a list for load: names that stand together and share their first letters. Assumes nothing.
-use Prim.Native.Nat.{ℕ, _+_, _≤_, _<_}
+-- Groups of the names of two lists for load: names that stand together and share their first letters. Assumes nothing.
+use Prim.Native.Nat.{ℕ, suc, _≤_, _<_}
 use mathlib.Core.Path.{_≡_}
-use mathlib.Core.Bool.{Bool, true, cond, _&&_}
-use mathlib.Core.List.{List, [], _++_, map}
-use lib.Dec.{eqb, ltb}
-use lib.ListN.{length, take, drop, getD}
-use Rattle.letters.specs.Each.{every}
-use Rattle.letters.specs.Letters.{letter, lineEnd}
+use mathlib.Core.Bool.{cond}
+use mathlib.Core.List.{List, [], _∷_, _++_, map}
+use lib.Dec.{eqb}
+use lib.ListN.{length, take}
 use Rattle.letters.specs.Words.{Word, wordOf}
-use Rattle.letters.specs.Names.{isName}
-use Rattle.letters.specs.Lists.{nameAt, linesOf, ended, rises, namesOf}
-use Rattle.letters.specs.Below.{allBelow}
 use Rattle.sets.specs.Sets.{Words}
 use Rattle.sets.specs.Residuals.{residual}
+use Rattle.model.specs.Prefixes.{shared}
+use Rattle.merging.specs.declared.places.Places.{Places}
+use Rattle.merging.specs.Merging.{nextBytes, placesAfter, Lists, bothFrom}
+use Rattle.building.specs.declared.depths.Ahead.{Ahead}
 
--- the names from a place on
-abbrev pub namesFrom : List ℕ → ℕ → Words
-namesFrom list at = namesOf (drop at list)
-
--- from the place on it is a list: "each name followed by 0x0A, names strictly rising"
-pub record Listed (list : List ℕ) (at : ℕ) : Type 0 where
-  pub inside : at ≤ length list
-  pub ended : ended (drop at list) ≡ true
-  pub named : every isName (linesOf (drop at list)) ≡ true
-  pub rising : rises (namesFrom list at) ≡ true
-
--- a group: from the place on the names that begin with the first so many letters of the name there
-pub record Begins (list : List ℕ) (at depth : ℕ) : Type 0 where
-  pub listed : Listed list at
-  pub some : at < length list
-  pub deep : depth ≤ length (nameAt list at)
+-- a group: from the places on the names that begin with the first so many letters of the next name there
+pub record Begins (f s : List ℕ) (at : Places) (name : List ℕ) (depth : ℕ) : Type 0 where
+  pub lists : Lists f s at
+  pub next : name ≡ nextBytes f s at
+  pub some : 0 < length name
+  pub deep : depth ≤ length name
 
 -- the letters that the names of the group share, and what is left of the names after them
-abbrev pub opening : List ℕ → ℕ → ℕ → Word
-opening list at depth = wordOf (take depth (drop at list))
+abbrev pub opening : List ℕ → ℕ → Word
+opening name depth = wordOf (take depth name)
 
-abbrev pub group : List ℕ → ℕ → ℕ → Words
-group list at depth = residual (opening list at depth) (namesFrom list at)
+abbrev pub group : List ℕ → List ℕ → Places → List ℕ → ℕ → Words
+group f s at name depth = residual (opening name depth) (bothFrom f s at)
 
--- the place behind the names of the group: they all stand before it, with no other, and no name from there on begins with these letters
-pub record Behind (list : List ℕ) (at depth next : ℕ) : Type 0 where
-  pub listed : Listed list next
-  pub later : at < next
-  pub split : namesFrom list at ≡ map (λ w. opening list at depth ++ w) (group list at depth) ++ namesFrom list next
-  pub none : residual (opening list at depth) (namesFrom list next) ≡ []
+-- the places of the first name of the group that has more letters than all share
+abbrev pub firstPlaces : List ℕ → List ℕ → Places → List ℕ → ℕ → Places
+firstPlaces f s at name depth = cond (eqb (length name) depth) (placesAfter f s at) at
 
--- the place of the first name of the group that has more letters than all share
-abbrev pub firstPlace : List ℕ → ℕ → ℕ → ℕ
-firstPlace list at depth = cond (eqb (getD list (at + depth) 0) lineEnd) (at + depth + 1) at
+-- how deep a next name is among those that begin with u: one more than the letters that it shares with u; 0 where there is none
+abbrev pub depthOf : Word → List ℕ → ℕ
+depthOf u [] = 0
+depthOf u (b ∷ bytes) = suc (shared u (wordOf (b ∷ bytes)))
 
--- the name at the place begins with the first letters of the group
-abbrev pub shares : List ℕ → ℕ → ℕ → ℕ → Bool
-shares list at place depth =
-    ltb (place + depth) (length list) && allBelow depth (λ i. eqb (letter (getD list (at + i) 0)) (letter (getD list (place + i) 0)))
+abbrev pub deepIn : Word → Words → ℕ
+deepIn u [] = 0
+deepIn u (v ∷ l) = suc (shared u v)
+
+-- it is said of the places that are ahead
+abbrev pub Deep : List ℕ → List ℕ → Word → Ahead → Type 0
+Deep f s u ahead = ahead .deep ≡ deepIn u (bothFrom f s (ahead .places))
+
+-- the places behind the names of the group: they all stand before them, with no other, and no name from there on begins with these letters
+pub record Behind (f s : List ℕ) (at : Places) (name : List ℕ) (depth : ℕ) (ahead : Ahead) : Type 0 where
+  pub lists : Lists f s (ahead .places)
+  pub split : bothFrom f s at ≡ map (λ w. opening name depth ++ w) (group f s at name depth) ++ bothFrom f s (ahead .places)
+  pub none : residual (opening name depth) (bothFrom f s (ahead .places)) ≡ []
+  pub deep : Deep f s (opening name depth) ahead

@@ -1,7 +1,7 @@
 -- The lines of a list, from a place on: the name there, its end, and what stands behind it. The laws are shown of a whole list, byte by
 -- byte up to the first line end, and then carried to a place. Assumes nothing.
-use Prim.Native.Nat.{ℕ, zero, suc, _+_, _-_, _≤_, _<_}
-use mathlib.Core.Path.{_≡_, refl, sym, ap, _∙_}
+use Prim.Native.Nat.{ℕ, suc, _+_, _-_, _≤_, _<_}
+use mathlib.Core.Path.{_≡_, refl, ap}
 use mathlib.Core.Bool.{Bool, true, false, cond, _&&_, and-eq-true-iff}
 use mathlib.Core.List.{List, [], _∷_, map}
 use native.Mathlib.Nat.{add-zero, add-suc, add-sub-cancel-left}
@@ -113,15 +113,6 @@ end-here s at h e = rw (drop-cons s at 0, e) (add-zero at)
 pub end-later : (s : List ℕ) (at : ℕ) → at < length s → (getD s at 0 ≡ lineEnd → ⊥) → nameEnd s at ≡ nameEnd s (at + 1)
 unfolding upToEnd
 end-later s at h n = rw (drop-cons s at 0, ne-eqb _ _ n, add-one at) (omega arith)
-
--- seen from inside the name, its end is the same
-pub end-within : (s : List ℕ) (at d : ℕ) → at ≤ length s → d ≤ length (nameAt s at) → nameEnd s (at + d) ≡ nameEnd s at
-end-within s at zero h l = rw (add-zero at)
-end-within s at (suc d) h l =
-    let before = end-within s at d h (omega arith) in
-    let inside : at + d < length s = omega (arith, nameEnd-le s at h) in
-    let later = end-later s (at + d) inside (λ e. omega (arith, before, end-here s (at + d) inside e)) in
-    rw (add-suc at d, ← add-one (at + d)) (sym later ∙ before)
 
 -- ---- the lines from a place on: the name there, and those behind it
 

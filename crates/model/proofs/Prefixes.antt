@@ -19,13 +19,13 @@ use Rattle.sets.proofs.Membership.{either}
 use Rattle.model.specs.Lists.{hasNames}
 use Rattle.model.specs.Prefixes.{shared, howFar, Begun, LongestPrefix}
 
-shared-long : (w v : Word) → shared w v ≤ length w
+pub shared-long : (w v : Word) → shared w v ≤ length w
 unfolding shared
 shared-long [] v = omega arith
 shared-long (x ∷ w) [] = omega arith
 shared-long (x ∷ w) (y ∷ v) = by-test (eqb x y) (λ e. rw e (omega (arith, shared-long w v))) (λ e. rw e (omega arith))
 
-shared-alike : (w v : Word) → take (shared w v) v ≡ take (shared w v) w
+pub shared-alike : (w v : Word) → take (shared w v) v ≡ take (shared w v) w
 unfolding shared
 shared-alike [] v = refl
 shared-alike (x ∷ w) [] = refl
@@ -35,7 +35,7 @@ shared-alike (x ∷ w) (y ∷ v) =
     (λ e. rw e)
 
 -- who begins like a word for k letters shares at least these
-alike-shared : (w v : Word) (k : ℕ) → k ≤ length w → take k v ≡ take k w → k ≤ shared w v
+pub alike-shared : (w v : Word) (k : ℕ) → k ≤ length w → take k v ≡ take k w → k ≤ shared w v
 unfolding shared
 alike-shared w v zero h e = omega arith
 alike-shared [] v (suc k) h e = absurd (omega (arith, h))

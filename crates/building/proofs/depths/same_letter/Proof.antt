@@ -3,8 +3,8 @@ use mathlib.Core.Path.{sym}
 use borrow.Author.Needs.{needs}
 use borrow.Author.Tests.{eq-eqb}
 use Rattle.letters.specs.Letters.{letter}
-use Rattle.building.proofs.places.same_letter.Statement.{statement}
-use Rattle.building.proofs.places.same_letter.Tie as tie
+use Rattle.building.proofs.depths.same_letter.Statement.{statement}
+use Rattle.building.proofs.depths.same_letter.Tie as tie
 
 returns : tie.Need-returns
 returns c = sym (eq-eqb (letter (c .before .args .a)) (letter (c .before .args .b)) (rw (c .if1 .taken)))
