@@ -197,8 +197,8 @@ inline std::string longest_list_to_write() {
     return list + std::string(longest_list - list.size() - 1, '_') + '\n';
 }
 
-// Rows in layers, each with an arc to every row of the layer below: the list has more names than a number of 64 bits can
-// count, and nearly all names of up to 24 letters.
+// Rows in layers, each with an arc to every row of the layer below. The list has nearly all names of up to 24 letters,
+// more than a number of 64 bits can count.
 inline Table book_of_very_many_names() {
     constexpr unsigned layers = BOOK_LONGEST - 1; // so 853 rows
     HandWritten book;
