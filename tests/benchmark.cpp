@@ -24,6 +24,7 @@
 #include <iomanip>
 #include <iostream>
 #include <iterator>
+#include <limits>
 #include <map>
 #include <memory>
 #include <set>
@@ -46,8 +47,10 @@ constexpr unsigned both = 1, common = 2;                     // operations of co
 
 [[noreturn]] void fail(const std::string &why) { std::cerr << "benchmark: " << why << '\n'; std::exit(1); }
 
-// 1,234 or 12 or 1.25
+// 1,234 or 12 or 1.25; "-" for what was not measured
+constexpr double unmeasured = std::numeric_limits<double>::quiet_NaN();
 std::string figure(double number) {
+    if (std::isnan(number)) return "-";
     std::ostringstream text;
     text << std::fixed << std::setprecision(number >= 10 || number == int(number) ? 0 : 2) << number;
     std::string digits = text.str();
@@ -57,23 +60,27 @@ std::string figure(double number) {
 
 // ---- The library --------------------------------------------------------------------------------------------------
 #define EACH_CALL(DO)                                                                                                  \
-    DO(empty) DO(check) DO(ask) DO(next) DO(add) DO(remove) DO(clear) DO(load) DO(combine) DO(count) DO(rank) DO(nth)  \
-    DO(used)
+    DO(empty) DO(check) DO(ask) DO(next) DO(add) DO(remove) DO(clear) DO(load) DO(load_two) DO(combine) DO(count)      \
+    DO(rank) DO(nth) DO(write) DO(used)
 #define POINTER(call) decltype(&book_##call) call;
 #define NOW(call) book_##call,
 struct Library { EACH_CALL(POINTER) };
 constexpr Library now = {EACH_CALL(NOW)};
 #ifdef BEFORE // an earlier state of it, whose names the script has changed
-// Where a call has got a last parameter since then, the earlier one leaves a register of x86-64 unread.
-#define DECLARED(call) extern "C" decltype(book_##call) before_book_##call;
+// Where a call has got a last parameter since then, the earlier one leaves a register of x86-64 unread. A call that it
+// had not yet is a null pointer, as the names are weak, and is not measured.
+#define DECLARED(call) extern "C" __attribute__((weak)) decltype(book_##call) before_book_##call;
 #define EARLIER(call) before_book_##call,
 EACH_CALL(DECLARED)
 constexpr Library before = {EACH_CALL(EARLIER)};
 #endif
 
 // ---- The contestants: sixteen lists with the book's calls, which answer the book's values -------------------------
+std::array<uint8_t, longest_list> written; // by write
+
 template <const Library &library> class BookBy {
   public:
+    template <class Call> static bool has(Call Library::*call) { return library.*call != nullptr; }
     explicit BookBy(unsigned room) : table(BOOK_LENGTH(room)) { empty(); }
     explicit BookBy(Table table) : table(std::move(table)) { check(); }
     uint64_t empty() { return value(library.empty, table); }
@@ -94,6 +101,9 @@ template <const Library &library> class BookBy {
     uint64_t load(unsigned m, const std::string &list) {
         return value(library.load, table, m, bytes(list), list.size());
     }
+    uint64_t load_two(unsigned m, const std::string &first, const std::string &second) {
+        return value(library.load_two, table, m, bytes(first), first.size(), bytes(second), second.size());
+    }
     uint64_t combine(unsigned operation, unsigned a, unsigned b, unsigned c) {
         return value(library.combine, table, operation, a, b, c);
     }
@@ -104,6 +114,13 @@ template <const Library &library> class BookBy {
     Name nth(unsigned m, uint32_t n) const {
         uint8_t name[BOOK_LONGEST];
         return Name(name, name + value(library.nth, table, m, n, name, sizeof name));
+    }
+    uint64_t write(unsigned m) const { return value(library.write, table, m, written.data(), written.size()); }
+    // The number by which it refuses to.
+    uint64_t write_refused(unsigned m) const {
+        const uint64_t answer = library.write(table.data(), table.size(), m, written.data(), written.size());
+        if (BOOK_NUMBER(answer) == 0) fail("the book writes a list that is too long");
+        return BOOK_NUMBER(answer);
     }
     // No call: what it costs to look at each number of the table once. The empty assembly keeps the compiler from
     // adding up several at a time.
@@ -145,11 +162,30 @@ struct SortedVector : std::vector<Name> {
 };
 using Lists = std::array<SortedVector, missions>;
 
+// The names of a list as load takes it.
+std::vector<Name> names_of(const std::string &list) {
+    std::vector<Name> names;
+    for (std::size_t from = 0, end; (end = list.find('\n', from)) != Name::npos; from = end + 1)
+        names.push_back(list.substr(from, end - from));
+    return names;
+}
+
+// Writes names that are in order as write does.
+template <class Names> uint64_t write_names(const Names &names) {
+    uint8_t *at = written.data();
+    for (const Name &name : names) {
+        at = std::copy(name.begin(), name.end(), at);
+        *at++ = '\n';
+    }
+    return at - written.data();
+}
+
 uint64_t bit_of(char letter) { return 1ull << (letter <= '9' ? letter - '0' : letter == '_' ? 36 : letter - 'A' + 10); }
 
 // The calls on sixteen of a container's lists, written for an ordered one.
 template <class List> struct Containers {
     std::array<List, missions> lists;
+    template <class Call> static bool has(Call Library::*) { return true; }
     uint64_t ask(unsigned m, const Name &name) const { return lists[m].count(name); }
     uint64_t next(unsigned m, const Name &prefix) const {
         uint64_t letters = 0;
@@ -170,6 +206,12 @@ template <class List> struct Containers {
             lists[m].insert(lists[m].end(), list.substr(from, end - from));
         return lists[m].size();
     }
+    uint64_t load_two(unsigned m, const std::string &first, const std::string &second) {
+        const std::vector<Name> names = names_of(first), others = names_of(second);
+        std::set_union(names.begin(), names.end(), others.begin(), others.end(),
+                       std::inserter(lists[m], lists[m].end()));
+        return lists[m].size();
+    }
     uint64_t combine(unsigned operation, unsigned a, unsigned b, unsigned c) {
         const auto begin = lists[a].begin(), end = lists[a].end(), from = lists[b].begin(), to = lists[b].end();
         const auto result = std::inserter(lists[c], lists[c].end());
@@ -183,6 +225,7 @@ template <class List> struct Containers {
         return std::distance(lists[m].begin(), lists[m].lower_bound(name));
     }
     Name nth(unsigned m, uint32_t n) const { return *std::next(lists[m].begin(), n); }
+    uint64_t write(unsigned m) const { return write_names(lists[m]); }
 };
 
 // Without an order each name must be looked at.
@@ -208,6 +251,11 @@ struct Hashed : Containers<std::unordered_set<Name>> {
         std::nth_element(names.begin(), names.begin() + n, names.end());
         return names[n];
     }
+    uint64_t write(unsigned m) const {
+        std::vector<Name> names(lists[m].begin(), lists[m].end());
+        std::sort(names.begin(), names.end());
+        return write_names(names);
+    }
 };
 
 #ifdef DAWG_INSTALLED
@@ -227,6 +275,9 @@ struct Dawg : Containers<SortedVector> {
     uint64_t remove(unsigned m, const Name &name) { return build(m, Containers::remove(m, name)); }
     uint64_t clear(unsigned m) { return build(m, Containers::clear(m)); }
     uint64_t load(unsigned m, const std::string &list) { return build(m, Containers::load(m, list)); }
+    uint64_t load_two(unsigned m, const std::string &first, const std::string &second) {
+        return build(m, Containers::load_two(m, first, second));
+    }
     uint64_t combine(unsigned operation, unsigned a, unsigned b, unsigned c) {
         return build(c, Containers::combine(operation, a, b, c));
     }
@@ -296,12 +347,30 @@ std::vector<std::string> pieces_of(const SortedVector &list) {
     return pieces;
 }
 
-// A list of the first hundred names of two missions that have none in common: in the largest book it needs 67 new rows.
-std::string hundred_names(const Lists &lists) {
-    SortedVector names = lists[3];
-    for (const Name &name : lists[8]) names.insert(name);
-    names.resize(100);
-    return pieces_of(names)[0];
+// The first so many names of two missions that have none in common.
+SortedVector first_names(const Lists &lists, unsigned m, unsigned other, std::size_t number) {
+    SortedVector names = lists[m];
+    for (const Name &name : lists[other]) names.insert(name);
+    names.resize(number);
+    return names;
+}
+
+// What is loaded into an empty list.
+struct Loads {
+    std::string hundred;       // names; none, where there are not so many
+    std::string first, second; // a hundred names each, of which every second one is on both lists
+};
+
+// In the largest book these need 67 and 72 new rows.
+Loads loads_of(const Lists &lists) {
+    SortedVector first, second;
+    unsigned i = 0;
+    for (const Name &name : first_names(lists, 3, 12, 150)) {
+        if (i % 3 != 2) first.push_back(name);
+        if (i % 3 != 0) second.push_back(name);
+        ++i;
+    }
+    return {pieces_of(first_names(lists, 3, 8, 100))[0], pieces_of(first)[0], pieces_of(second)[0]};
 }
 
 struct Job {
@@ -399,7 +468,7 @@ double ratio(const Measurement &first, const Measurement &second) {
 using Column = std::map<std::string, Measurement>; // by call
 
 // All jobs are done on one book, or where they change it each on its own copy, so that all find the same.
-template <class Contestant> Column column_of(const Contestant &full, const Jobs &jobs, const std::string &hundred) {
+template <class Contestant> Column column_of(const Contestant &full, const Jobs &jobs, const Loads &loads) {
     Column column;
     const auto plan = [&](const char *call, bool changes, auto before, auto answer) {
         const auto books = std::make_shared<std::vector<Contestant>>();
@@ -422,15 +491,20 @@ template <class Contestant> Column column_of(const Contestant &full, const Jobs 
     change("add", remove, [](auto &book, auto &job) { return book.add(job.mission, job.name); });
     change("remove", nothing, remove);
     change("clear", nothing, clear);
-    if (jobs->front().pieces.size() == 1)
-        change("load", clear, [](auto &book, auto &job) { return book.load(job.mission, job.pieces[0]); });
-    if (!hundred.empty())
-        change("load of 100 names", nothing, [=](auto &book, auto &) { return book.load(receiving, hundred); });
+    const bool are_lists = jobs->front().pieces.size() == 1, are_hundred = !loads.hundred.empty();
+    if (are_lists) change("load", clear, [](auto &book, auto &job) { return book.load(job.mission, job.pieces[0]); });
+    if (are_hundred)
+        change("load of 100 names", nothing, [=](auto &book, auto &) { return book.load(receiving, loads.hundred); });
+    if (are_hundred && full.has(&Library::load_two))
+        change("load of two lists", nothing,
+               [=](auto &book, auto &) { return book.load_two(receiving, loads.first, loads.second); });
     change("combine", nothing,
            [](auto &book, auto &job) { return book.combine(job.operation, job.mission, job.other, receiving); });
     read("count", [](auto &book, auto &job) { return book.count(job.mission); });
     read("rank", [](auto &book, auto &job) { return book.rank(job.mission, job.asked); });
     read("nth", [](auto &book, auto &job) { return book.nth(job.mission, job.place) == job.name; });
+    if (are_lists && full.has(&Library::write))
+        read("write", [](auto &book, auto &job) { return book.write(job.mission); });
     if constexpr (is_book<Contestant>) {
         change("empty", nothing, [](auto &book, auto &) { return book.empty(); });
         const auto check = [](auto &book, auto &) { return book.check(); };
@@ -468,12 +542,12 @@ std::vector<double> about(const Book &book, unsigned room, const Lists &lists) {
     return {1.0 * book.used(), 1.0 * room, names, longest};
 }
 
-Contest contest_on(unsigned rows, const Lists &lists, const Jobs &jobs, const std::string &hundred, bool with_rivals) {
+Contest contest_on(unsigned rows, const Lists &lists, const Jobs &jobs, const Loads &loads, bool with_rivals) {
     const unsigned room = std::min(rows + 60, most_room); // combine needs rows for what it makes
     const Book book = filled(Book(room), lists);
-    Contest made = {about(book, room, lists), {{"book", column_of(book, jobs, hundred)}}};
+    Contest made = {about(book, room, lists), {{"book", column_of(book, jobs, loads)}}};
     const auto join = [&](const char *name, auto empty) {
-        made.columns.emplace_back(name, column_of(filled(empty, lists), jobs, hundred));
+        made.columns.emplace_back(name, column_of(filled(empty, lists), jobs, loads));
     };
 #ifdef BEFORE
     join("before", BookBy<before>(room));
@@ -484,7 +558,8 @@ Contest contest_on(unsigned rows, const Lists &lists, const Jobs &jobs, const st
     join("sorted vector", Containers<SortedVector>());
 #ifdef DAWG_INSTALLED
     join("libdawgdic", Dawg());
-    for (const char *call : {"count", "rank", "nth"}) made.columns.back().second.erase(call); // of the vector beside it
+    for (const char *call : {"count", "rank", "nth", "write"}) // of the vector beside it
+        made.columns.back().second.erase(call);
 #endif
     return made;
 }
@@ -495,8 +570,8 @@ std::vector<Contest> by_size(bool with_rivals) {
     for (const auto &[rows, groups] : rows_and_groups) {
         const Lists lists = script_names(groups);
         const Jobs jobs = jobs_on(lists, 0, std::min(groups + 1, receiving));
-        const std::string hundred = rows == 1000 ? hundred_names(lists) : ""; // only there are so many names
-        contests.push_back(contest_on(rows, lists, jobs, hundred, with_rivals && rows != 30 && rows != 300));
+        const Loads loads = rows == 1000 ? loads_of(lists) : Loads(); // only there are so many names
+        contests.push_back(contest_on(rows, lists, jobs, loads, with_rivals && rows != 30 && rows != 300));
     }
     return contests;
 }
@@ -505,7 +580,7 @@ std::vector<Contest> by_names() {
     std::vector<Contest> contests;
     for (const unsigned names : {100, 1000, 10000, 60000}) {
         const Lists lists = with_dense_names(script_names(11), names);
-        contests.push_back(contest_on(100, lists, jobs_on(lists, dense, 2), "", false));
+        contests.push_back(contest_on(100, lists, jobs_on(lists, dense, 2), {}, false));
     }
     return contests;
 }
@@ -528,17 +603,19 @@ void measure(std::vector<Contest> &contests, std::chrono::seconds enough) {
         for (Contest &contest : contests) measure_round(contest, round % 2 == 1);
 }
 
-// A call that takes long on one book: for pairs of rows that it settles, or rows that it asks for.
+// A call that takes long on one book: for pairs of rows that it settles, rows that it asks for or goes through.
 struct Slow {
     std::string call, unit;
     double rows, units, time; // rows in use, units of work, nanoseconds
 };
 
-// Any call on any table that is a sound book. Few turns, since one may take seconds.
+// Any call on any table that is a sound book, unless an earlier state of the library has it not. Few turns, since one
+// may take seconds.
 template <class Book>
 Slow slow_call(const std::string &call, std::size_t units, const std::string &unit, const Table &table,
-               const std::function<uint64_t(Book &)> &answer) {
+               const std::function<uint64_t(Book &)> &answer, bool has = true) {
     const Book full(table);
+    if (!has) return {call, unit, 1.0 * full.used(), 1.0 * units, unmeasured};
     Book book = full;
     Measurement slow = {[&] { book = full; }, [&] { return answer(book); }, false, 1};
     slow.round(std::chrono::seconds(1), 15);
@@ -550,19 +627,47 @@ template <class Book> Slow slow_combine(const std::string &call, const Table &ta
                            [=](Book &book) { return book.combine(operation, 0, 1, receiving); });
 }
 
+template <class Book> Slow slow_load(const std::string &call) {
+    const std::string list = lists_that_end_alike(1)[0];
+    return slow_call<Book>(call, rows_asked(list), "rows asked for", book_of_like_beginnings(),
+                           [=](Book &book) { return book.load(receiving, list); });
+}
+
+template <class Book> Slow slow_load_two(const std::string &call) {
+    const std::vector<std::string> lists = lists_that_end_alike(2);
+    return slow_call<Book>(call, rows_asked(lists[0] + lists[1]), "rows asked for", book_of_like_beginnings(),
+                           [=](Book &book) { return book.load_two(receiving, lists[0], lists[1]); },
+                           Book::has(&Library::load_two));
+}
+
+template <class Book> Slow slow_write(const std::string &call) {
+    const std::string list = longest_list_to_write();
+    Table table = book_of_like_beginnings();
+    book_load(table.data(), table.size(), receiving, reinterpret_cast<const uint8_t *>(list.data()), list.size());
+    return slow_call<Book>(call, rows_asked(list), "rows entered", table,
+                           [=](Book &book) { return book.write(receiving); }, Book::has(&Library::write));
+}
+
+template <class Book> Slow slow_refusal_of_write(const std::string &call) {
+    const Table table = book_of_very_many_names();
+    return slow_call<Book>(call, arcs_of(table), "arcs", table, [](Book &book) { return book.write_refused(0); },
+                           Book::has(&Library::write));
+}
+
 // The worst that were found. Another is one more line here, and one in print_slow.
 template <class Book> std::vector<Slow> slow_calls() {
-    const std::string list = list_that_ends_alike();
-    const auto load = [&](Book &book) { return book.load(receiving, list); };
     return {slow_combine<Book>("combine", book_of_few_arcs(), common),
-            slow_call<Book>("load", rows_asked(list), "rows asked for", book_of_like_beginnings(), load),
+            slow_load<Book>("load"),
             slow_combine<Book>("combine, all arcs", book_of_all_arcs(), both),
-            slow_combine<Book>("combine, one key", book_of_one_key(), both)};
+            slow_combine<Book>("combine, one key", book_of_one_key(), both),
+            slow_load_two<Book>("load of two lists"),
+            slow_write<Book>("write"),
+            slow_refusal_of_write<Book>("write, refused")};
 }
 
 // ---- Printing -----------------------------------------------------------------------------------------------------
 constexpr std::array calls = {"empty", "check", "ask", "next", "add", "remove", "clear", "load", "load of 100 names",
-                              "combine", "count", "rank", "nth", "used"};
+                              "load of two lists", "combine", "count", "rank", "nth", "write", "used"};
 using Cells = std::vector<std::string>;
 
 // The book's time for a call, or that over its time for another; "-" where the call was not measured.
@@ -622,7 +727,7 @@ Every call but empty, ask and next first checks the whole book, since it must re
 sound: so none of them can take much less than 1 here. A call that changes the book is compared with a check
 of such a copy. The last line is check itself, in sums of the table.
 )";
-    static const std::set<std::string> reading = {"count", "rank", "nth", "used"};
+    static const std::set<std::string> reading = {"count", "rank", "nth", "write", "used"};
     static const std::set<std::string> others = {"empty", "check", "ask", "next"};
     print_head(cells_of(facts[0], contests, fact(0)));
     for (const std::string call : calls)
@@ -644,6 +749,10 @@ Sound books, written by hand, on which a call takes as long as we could make it 
 - **combine, all arcs**: as the first, but each row has an arc for every letter.
 - **combine, one key**: as the third, but all those rows have one key in the library's index of rows, so that
   each of them is looked at for each pair.
+- **load of two lists**: as load, by two lists of such names, which come by turns.
+- **write**: 65,535 bytes of such names, in the same book. Each name enters rows anew from its third letter on.
+- **write, refused**: a list with more names than could ever be written, in a book where each row has an arc
+  for every letter.
 )";
     print_head({"call", "rows in use", "work", "microseconds", "nanoseconds for each"});
     for (const Slow &one : slow)
@@ -704,9 +813,10 @@ void print_introduction(const std::string &note) {
   them. A time is the median of the rounds, and a ratio the median of the rounds' ratios.
 - **The books** hold names such as SLEW_A3 and WHEEL_B_ON. Each name is on the lists of two missions.
 - **The jobs**: every second name that ask, next and rank are given is on no list. add puts a name back that
-  was taken off, and load a list that was cleared; "load of 100 names" fills one that was empty. combine does
-  its three operations in turn. A call that changes the book works on a copy of its own; the others are
-  repeated on one book, so that ask and next find what they read in the nearest cache.
+  was taken off, and load a list that was cleared; "load of 100 names" fills one that was empty, and "load of
+  two lists" does so by 100 names and 100 more, of which half are the same. combine does its three operations
+  in turn, and write writes a whole list. A call that changes the book works on a copy of its own; the others
+  are repeated on one book, so that ask and next find what they read in the nearest cache.
 - **The sum** is no call, but a plain loop that adds up all numbers of the table, one after another, those of
   free rows too. check has to look at each of them as well.
 )";
@@ -795,19 +905,22 @@ void print_figures(const std::string &what, const std::vector<double> &figures) 
     std::cout << '\n';
 }
 
-// A ratio of two times, for each state.
+// A ratio of two times, for each state that has the call.
 void print_ratio(const std::string &call, const Contest &contest, const std::string &over, const Contest &other) {
-    std::vector<double> figures;
-    for (const std::string &state : states) figures.push_back(ratio(contest.of(call, state), other.of(over, state)));
+    std::vector<double> figures(states.size(), unmeasured);
+    for (std::size_t i = 0; i < states.size(); ++i)
+        if (contest.has(call, states[i])) figures[i] = ratio(contest.of(call, states[i]), other.of(over, states[i]));
     const auto at = [](const Contest &one) { return " at " + figure(one.about[0]) + " rows"; };
     print_figures(call + (&contest == &other ? "" : at(contest)) + " / " + over + at(other), figures);
 }
 
 // A time for each state, and then how many times as fast as before it is now.
 void print_time(const std::string &call, const Contest &contest) {
-    std::vector<double> figures;
-    for (const std::string &state : states) figures.push_back(median(contest.of(call, state).times));
-    if (states.size() == 2) figures.push_back(ratio(contest.of(call, "before"), contest.of(call)));
+    std::vector<double> figures(states.size() == 2 ? 3 : 1, unmeasured);
+    for (std::size_t i = 0; i < states.size(); ++i)
+        if (contest.has(call, states[i])) figures[i] = median(contest.of(call, states[i]).times);
+    if (states.size() == 2 && contest.has(call, "before"))
+        figures[2] = ratio(contest.of(call, "before"), contest.of(call));
     print_figures(call + " at " + figure(contest.about[0]) + " rows, ns", figures);
 }
 
@@ -825,8 +938,9 @@ void print_brief(const std::vector<Contest> &contests, const std::vector<std::ve
     if (states.size() == 2) std::cout << "figure\tbefore\tnow\tbefore / now\n";
     print_ratio("check", large, "sum", large);
     print_ratio("check", large, "check", middle);
-    print_ratio("count", large, "check", large);
-    for (const char *call : {"add", "remove", "load of 100 names"}) print_ratio(call, large, "check of a copy", large);
+    for (const char *call : {"count", "write"}) print_ratio(call, large, "check", large);
+    for (const char *call : {"add", "remove", "load of 100 names", "load of two lists"})
+        print_ratio(call, large, "check of a copy", large);
     print_slow_times(slow);
     for (const std::string call : calls)
         if (small.has(call)) print_time(call, small);

@@ -166,16 +166,19 @@ inline Table book_of_like_beginnings() {
     return book.table;
 }
 
-// As many names of 24 letters as a list can have. They differ in the first three and go on alike: so load asks for the
-// same rows again for each.
-inline std::string list_that_ends_alike() {
+// As many names of 24 letters as so many lists can have, one list or two, whose names come by turns. They differ in the
+// first three letters and go on alike: so load asks for the same rows again for each.
+inline std::vector<std::string> lists_that_end_alike(unsigned many) {
     const std::string end = std::string(BOOK_LONGEST - 3, '_') + '\n';
-    std::string list;
+    std::vector<std::string> lists(many);
+    unsigned turn = 0;
     for (const char first : alphabet)
         for (const char second : alphabet)
-            for (const char third : {'Z', '_'})
+            for (const char third : alphabet.substr(letters - 2 * many)) {
+                std::string &list = lists[turn++ % many];
                 if (list.size() + 3 + end.size() <= longest_list) list += {first, second, third}, list += end;
-    return list;
+            }
+    return lists;
 }
 
 // The rows that load asks for: one for each beginning of a name.
@@ -184,6 +187,44 @@ inline std::size_t rows_asked(const std::string &list) {
     for (std::size_t from = 0, end; (end = list.find('\n', from)) != std::string::npos; from = end + 1)
         for (std::size_t length = 0; length <= end - from; ++length) beginnings.insert(list.substr(from, length));
     return beginnings.size();
+}
+
+// ---- write: many rows are entered, or very many words are counted ---------------------------------------------------
+// The longest list that can be written: the names of above, and one of the bytes that they leave. From its third letter
+// on each name enters rows anew, which have an arc for the last letter alone.
+inline std::string longest_list_to_write() {
+    const std::string list = lists_that_end_alike(1)[0];
+    return list + std::string(longest_list - list.size() - 1, '_') + '\n';
+}
+
+// Rows in layers, each with an arc to every row of the layer below. The list has nearly all names of up to 24 letters,
+// more than a number of 64 bits can count.
+inline Table book_of_very_many_names() {
+    constexpr unsigned layers = BOOK_LONGEST - 1; // so 853 rows
+    HandWritten book;
+    const uint16_t end = book.row({}, 2);
+    Rows layer = all_but_one(book, end);
+    for (unsigned height = 2; height <= layers; ++height) {
+        Rows next;
+        for (unsigned i = 0; i < letters; ++i) {
+            Targets targets;
+            for (unsigned x = 0; x < letters; ++x) targets[x] = layer[(i + x) % letters];
+            next.push_back(book.row(targets, 2));
+        }
+        layer = next;
+    }
+    Targets targets;
+    std::copy(layer.begin(), layer.end(), targets.begin());
+    book.start(0, book.row(targets));
+    return book.table;
+}
+
+// The arcs of all rows.
+inline std::size_t arcs_of(const Table &table) {
+    std::size_t arcs = 0;
+    for (std::size_t row = 1; row < table.size() / width; ++row)
+        arcs += letters - std::count(&table[row * width + 2], &table[row * width + 2 + letters], 0);
+    return arcs;
 }
 
 // ---- combine where the index is of no use -------------------------------------------------------------------------
