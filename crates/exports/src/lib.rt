@@ -95,7 +95,12 @@ pub extern "C" fn book_load(table: &mut [u16], mission: u32, list: &[u8]) -> u64
 }
 
 #[no_mangle]
-pub extern "C" fn book_load_two<'a>(table: &mut [u16], mission: u32, first: &'a [u8], second: &'a [u8]) -> u64
+pub extern "C" fn book_load_two<'a>(
+    table: &mut [u16],
+    mission: u32,
+    first: &'a [u8],
+    second: &'a [u8],
+) -> u64
     ensures { λ r. ⌜ Promised (now (table .entry)) (now (table .exit)) [] [] (loadTwo mission (now (first .entry)) (now (second .entry))) (unpacked r) ⌝ }
 {
     packed_answer(filling::load_two(table, mission, first, second))

@@ -26,7 +26,13 @@ ghost use Rattle.promises.specs.Promises.{Changes, Promised};
 ghost use Rattle.filling.specs.Filling.{Loadable};
 
 // On a sound book, two lists for a mission that has none.
-fn fill_lists<'a>(t: &mut [u16], index: &mut [u16], m: usize, first: &'a [u8], second: &'a [u8]) -> Answer
+fn fill_lists<'a>(
+    t: &mut [u16],
+    index: &mut [u16],
+    m: usize,
+    first: &'a [u8],
+    second: &'a [u8],
+) -> Answer
     requires { ⌜ Loadable (now t) m (now first) (now second) × Indexed (now t) (now index) × (start (now t) m ≡ 0) ⌝ }
     ensures { λ a. ⌜ Changes (now (t .entry)) (now (t .exit)) (loadTwo m (now (first .entry)) (now (second .entry))) (answerReply a) ⌝ }
 {
@@ -38,7 +44,13 @@ fn fill_lists<'a>(t: &mut [u16], index: &mut [u16], m: usize, first: &'a [u8], s
 }
 
 // On a sound book: refusal 8, and the rest.
-fn load_lists<'a>(t: &mut [u16], index: &mut [u16], m: usize, first: &'a [u8], second: &'a [u8]) -> Answer
+fn load_lists<'a>(
+    t: &mut [u16],
+    index: &mut [u16],
+    m: usize,
+    first: &'a [u8],
+    second: &'a [u8],
+) -> Answer
     requires { ⌜ Loadable (now t) m (now first) (now second) × Indexed (now t) (now index) ⌝ }
     ensures { λ a. ⌜ Changes (now (t .entry)) (now (t .exit)) (loadTwo m (now (first .entry)) (now (second .entry))) (answerReply a) ⌝ }
 {

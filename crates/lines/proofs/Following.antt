@@ -1,20 +1,20 @@
 -- The names that follow a line: what the call write puts behind the answer are all of them. A list that the desk's input can make has no more bytes
 -- than were read, since every name on it came in a line of its own. So it is short enough to be counted, and to be written behind the answer.
 -- Assumes nothing.
-use Prim.Native.Nat.{ℕ, zero, suc, _+_, _-_, _≤_, _<_, Ordering, Ordering·lt, Ordering·eq, Ordering·gt}
+use Prim.Native.Nat.{ℕ, zero, suc, _+_, _-_, _^_, _≤_, _<_, Ordering, Ordering·lt, Ordering·eq, Ordering·gt}
 use native.Mathlib.Omega.{arith}
 use native.Mathlib.Decide.{decLt}
-use mathlib.Core.Path.{_≡_, refl, _∙_}
-use mathlib.Core.Bool.{Bool, true, false, cond}
+use mathlib.Core.Path.{_≡_, refl, sym, _∙_, ap}
+use mathlib.Core.Bool.{Bool, true, false, not, cond}
 use mathlib.Core.Logic.{inl, inr}
-use mathlib.Core.List.{List, [], _∷_, _++_}
+use mathlib.Core.List.{List, [], _∷_}
 use borrow.Author.Tests.{le-ltb}
 use denote.Enum.Declared.{tagOf}
 use types.Run.{OneOf}
+use lib.Dec.{eqb}
 use lib.ListN.{length, replicate, length-append, length-map, length-drop}
 use Rattle.letters.specs.Each.{Each}
-use Rattle.letters.specs.Letters.{lineEnd}
-use Rattle.letters.specs.Words.{Word, wordOf, order}
+use Rattle.letters.specs.Words.{Word, wordOf, order, same}
 use Rattle.letters.specs.Lists.{longestList, line, lines}
 use Rattle.letters.proofs.Loaded.{line-long, lines-long}
 use Rattle.sets.specs.Sets.{Words, keep, put, insert, delete}
@@ -34,7 +34,7 @@ use Rattle.rows.proofs.Rules.{sound-length}
 use Rattle.promises.specs.Books.{bookOf}
 use Rattle.promises.specs.Promises.{outcomeOf}
 use Rattle.promises.proofs.Outcomes.{ruled-either}
-use Rattle.printing.specs.Printed.{field}
+use Rattle.printing.specs.Printed.{answerLine, spare}
 use Rattle.printing.proofs.Decimal.{field-short}
 use Rattle.lines.specs.declared.requests.Kind.{Kind}
 use Rattle.lines.specs.declared.requests.Kind.the-variants.{Add, Remove, Ask, Count}
@@ -53,6 +53,12 @@ others-none b m size Add other = refl
 others-none b m size Remove other = refl
 others-none b m size Ask other = refl
 others-none b m size Count other = absurd (elim other [ inl e ↦ omega (arith, e) | inr e ↦ elim e [ inl e ↦ omega (arith, e) | inr e ↦ omega (arith, e) ] ])
+
+-- the value of write is how many bytes it wrote, also where it is refused
+pub written-long : (b : Book) (m size : ℕ) → run b (write m size) .value ≡ length (run b (write m size) .written)
+written-long b m size =
+    rw (run-ruled b (write m size))
+    (ruled-either (λ o. o .value ≡ length (o .written)) b (rule b (write m size)) (λ n. refl) refl)
 
 -- ---- no list has more bytes than were read
 
@@ -105,8 +111,8 @@ module _ (b : Book) (text : List ℕ) (n : ℕ) (held : Held n (b .lists)) where
       rw (run-ruled b (callOf kind m (nameOf text)))
       (ruled-either (λ o. Held later (o .lists)) b (rule b (callOf kind m (nameOf text))) (λ k. held-later (omega arith) (b .lists) held) done)
 
-  same : Held later (b .lists)
-  same = held-later (omega arith) (b .lists) held
+  kept : Held later (b .lists)
+  kept = held-later (omega arith) (b .lists) held
 
   pub held-after : (asked : Request) → Held later (listsAfterLine b text asked)
   unfolding delete
@@ -115,21 +121,24 @@ module _ (b : Book) (text : List ℕ) (n : ℕ) (held : Held n (b .lists)) where
       let w = wordOf (nameOf text) in
       let long : length w ≤ length text = simp (length-map, length-drop) (omega arith) in
       by-rule Add m
-      (replace-each (λ l. length (lines l) ≤ later) (b .lists) m (insert w l) same
+      (replace-each (λ l. length (lines l) ≤ later) (b .lists) m (insert w l) kept
       (omega (arith, with-name w l, held-list (b .lists) held m, line-long w)))
   held-after (request.Call Remove m) =
       let l = listOf (b .lists) m in
       by-rule Remove m
-      (replace-each (λ l. length (lines l) ≤ later) (b .lists) m (delete (wordOf (nameOf text)) l) same
-      (omega (arith, some-names _ l, held-list (b .lists) held m)))
-  held-after (request.Call Ask m) = by-rule Ask m same
-  held-after (request.Call Count m) = by-rule Count m same
-  held-after request.Other = same
+      (replace-each (λ l. length (lines l) ≤ later) (b .lists) m (delete (wordOf (nameOf text)) l) kept
+      (omega (arith, some-names (λ v. not (same v (wordOf (nameOf text)))) l, held-list (b .lists) held m)))
+  held-after (request.Call Ask m) = by-rule Ask m kept
+  held-after (request.Call Count m) = by-rule Count m kept
+  held-after request.Other = kept
 
 -- ---- so all that follow are written
 
 module _ (t : Table) (s : sound t ≡ true) (text : List ℕ) (n at size : ℕ) (held : Held at (lists t)) (inside : at + length text ≤ mostInput)
     (takes : mostOutput ≤ size) where
+  answer-short : (number value : ℕ) → number < 2 ^ 64 → value < 2 ^ 64 → length (answerLine text number value) ≤ length text + spare
+  answer-short number value h k = simp length-append (omega (arith, field-short number h, field-short value k))
+
   -- the mission's list
   module _ (m : ℕ) where
     abbrev l : Words
@@ -160,17 +169,24 @@ module _ (t : Table) (s : sound t ≡ true) (text : List ℕ) (n at size : ℕ) 
 
     fits : m < missions → length (lines l) ≤ rest
     fits h =
-        let answer = length-append text (field 0 ++ field (length l) ++ lineEnd ∷ []) in
-        let fields = simp length-append at answer in
-        rw (count-done h)
-        (omega (arith, fields, field-short 0 (omega arith), field-short (length l) (omega (arith, short, lines-long l)), short))
+        let number : run (bookOf t) (count m) .number ≡ 0 = ap (λ (o : Outcome). o .number) (count-done h) in
+        let value : run (bookOf t) (count m) .value ≡ length l = ap (λ (o : Outcome). o .value) (count-done h) in
+        let few : length l < 2 ^ 64 = omega (arith, short, lines-long l) in
+        omega (arith, answer-short (run (bookOf t) (count m) .number) (run (bookOf t) (count m) .value) (omega arith) (omega arith), short)
+
+    -- what follows by the count, and what was written
+    named : (o : Outcome) → run (bookOf t) (count m) ≡ o → namesBehind (bookOf t) (request.Call Count m) ≡ cond (eqb (o .number) 0) l []
+    named o e = ap (λ (o : Outcome). cond (eqb (o .number) 0) l []) e
+
+    wrote : (o : Outcome) → run (bookOf t) (write m rest) ≡ o → writtenBehind (bookOf t) (request.Call Count m) rest ≡ o .written
+    wrote o e = ap (λ (o : Outcome). o .written) e
 
     counted : writtenBehind (bookOf t) (request.Call Count m) rest ≡ lines (namesBehind (bookOf t) (request.Call Count m))
     unfolding lines
     counted =
         elim (decLt m missions) [
-          | yes h ↦ rw (write-done h rest (fits h), count-done h)
-          | no h ↦ rw (write-refused (omega arith) rest, count-refused (omega arith))
+          | yes h ↦ wrote _ (write-done h rest (fits h)) ∙ ap lines (sym (named _ (count-done h)))
+          | no h ↦ wrote _ (write-refused (omega arith) rest) ∙ ap lines (sym (named _ (count-refused (omega arith))))
         ]
 
   behind-all : (asked : Request) → writtenBehind (bookOf t) asked (size - length (said (outcomeOf t) text n asked)) ≡ lines (namesBehind (bookOf t) asked)

@@ -93,7 +93,7 @@ module _ (t after : Table) (input : List ℕ) (place : Place) (before filled : L
             (record {
               long = k .long ∙ stands .long;
               fine = λ some. k .fine;
-              short = stands .short;
+              short = λ some. l .short;
               numbered = omega (arith, stands .numbered);
               bounded = omega (arith, stands .numbered, l .short);
               held = λ some. subst (λ (n : ℕ). Held n (lists after)) (sym on) (rw (k .names) (held-after (bookOf t) text (place .at) held (requestOf text)));

@@ -9,24 +9,24 @@ use Rattle.filling.proofs.loads.fill_lists.Statement.{statement}
 use Rattle.filling.proofs.loads.fill_lists.Tie as tie
 
 name-count-requires : tie.Need-name-count-requires
-name-count-requires c κs = let given = c .before .before .before .pre .0 in (given .listed, given .also)
+name-count-requires c κs = let given = c .before .before .before .before .pre .0 in (given .listed, given .also)
 
 cast-names : tie.Need-cast-names
 cast-names c =
-    let start = c .before .before .before .before in
+    let start = c .before .before .before .before .before in
     let few = loaded-few _ _ _ _ (start .pre .0) in
     search needs
 
 build-lists-requires : tie.Need-build-lists-requires
 build-lists-requires c κs =
-    let (given, indexed, _) = c .before .before .before .before .before .before .pre in
+    let (given, indexed, _) = c .before .before .before .before .before .before .before .pre in
     (sound-facts _ (given .sound) .tidy, indexed, given .listed, given .also)
 
 enum-known-r : tie.Need-enum-known-r
 enum-known-r c = search needs
 
 abbrev begin : tie.After-build-lists → tie.Start
-begin c = c .before .before .before .before .before .before .before
+begin c = c .before .before .before .before .before .before .before .before
 
 settle-requires : tie.Need-settle-requires
 settle-requires c κs =

@@ -20,7 +20,7 @@ same-length : tie.Need-same-length
 same-length c = search needs
 
 returns : tie.Need-returns
-returns c = alone-promised _ _ _ _ _ (c .before .load-two .ensures)
+returns c = alone-promised _ _ _ _ _ (c .before .before .load-two .ensures)
 
 pub load-spec : {M : Type 1} → statement M
 load-spec = tie.close (tie.spec sub-load-two part-load-two-start part-load-two-end load-two-requires same-length returns)

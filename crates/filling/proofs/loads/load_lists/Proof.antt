@@ -8,7 +8,7 @@ use Rattle.filling.proofs.loads.load_lists.Tie as tie
 
 start-requires : tie.Need-start-requires
 start-requires c κs =
-    let (given, _) = c .before .before .before .before .pre in
+    let (given, _) = c .before .before .before .before .before .pre in
     start-inside _ (sound-length _ (given .sound)) _ (given .mission)
 
 same-length : tie.Need-same-length
@@ -16,13 +16,13 @@ same-length c = search needs
 
 returns : tie.Need-returns
 returns c =
-    let (given, _) = c .before .before .before .before .before .before .pre in
+    let (given, _) = c .before .before .before .before .before .before .before .pre in
     load-not-empty _ _ _ _ given (omega (arith, c .before .start .ensures))
 
 fill-lists-requires : tie.Need-fill-lists-requires
 fill-lists-requires c κs =
     let started = c .before .before .before in
-    let (given, indexed) = started .before .before .before .before .before .pre in
+    let (given, indexed) = started .before .before .before .before .before .before .pre in
     (given, indexed, omega (arith, started .start .ensures))
 
 same-length-2 : tie.Need-same-length-2
