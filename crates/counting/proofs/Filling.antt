@@ -20,7 +20,6 @@ use Rattle.rows.specs.Table.{Table, rowCount, target, ends}
 use Rattle.rows.specs.Words.{words}
 use Rattle.rows.specs.Tidy.{Used, Arc, Tidy}
 use Rattle.rows.specs.Skips.{NextArc}
-use Rattle.rows.proofs.Facts.{no-row}
 use Rattle.rows.proofs.Words.{words-none, has-word}
 use Rattle.rows.proofs.Zeros.{zero-cell}
 use Rattle.rows.proofs.Skipping.{lower-or-not}

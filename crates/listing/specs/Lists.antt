@@ -1,6 +1,6 @@
 -- The lines of the words from a row, behind the letters walked to it. Assumes nothing.
-use mathlib.Core.Bool.{Bool, cond}
 use Prim.Native.Nat.{ℕ}
+use mathlib.Core.Bool.{Bool, cond}
 use mathlib.Core.List.{List, [], _∷_, _++_}
 use Rattle.letters.specs.Letters.{lineEnd}
 use Rattle.letters.specs.Lists.{line}

@@ -9,8 +9,7 @@ use lib.Dec.{ltb}
 use lib.ListN.{length}
 use borrow.Author.Tests.{lt-ltb, le-ltb}
 use Rattle.letters.specs.Names.{longest}
-use Rattle.letters.specs.Lists.{longestList, lines}
-use Rattle.sets.specs.Cut.{mostNames, cut}
+use Rattle.sets.specs.Sets.{Words}
 use Rattle.sets.proofs.Membership.{getD-in, each-in}
 use Rattle.model.specs.Lists.{missions, listOf, nthOf}
 use Rattle.model.specs.Call.{Call, overlaid}
@@ -30,27 +29,16 @@ use Rattle.promises.specs.Promises.{outcomeOf, Leaves, Promised}
 pub list-words : (t : Table) (m r : ℕ) → m < missions → r ≡ start t m → listOf (lists t) m ≡ words t r
 list-words t m r h e = rw e (list-names t m h)
 
--- "the list has over 60,000 names", by the number of its names, cut
-module _ (t : Table) (m k : ℕ) (h : m < missions) (e : k ≡ cut (length (names t m))) where
-  pub names-over : mostNames < k → ltb mostNames (length (listOf (lists t) m)) ≡ true
-  names-over over = rw (list-names t m h) (lt-ltb mostNames (length (names t m)) (omega arith))
+-- "the list has over 60,000 names", or "over 65,535 bytes are needed", by the number of its names or bytes, cut
+module _ (size : Words → ℕ) (most : ℕ) (t : Table) (m k : ℕ) (h : m < missions) (e : k ≡ min (size (names t m)) (suc most)) where
+  pub list-over : most < k → ltb most (size (listOf (lists t) m)) ≡ true
+  list-over over = rw (list-names t m h) (lt-ltb most (size (names t m)) (omega arith))
 
-  pub names-under : k ≤ mostNames → ltb mostNames (length (listOf (lists t) m)) ≡ false
-  names-under under = rw (list-names t m h) (le-ltb mostNames (length (names t m)) (omega arith))
+  pub list-under : k ≤ most → ltb most (size (listOf (lists t) m)) ≡ false
+  list-under under = rw (list-names t m h) (le-ltb most (size (names t m)) (omega arith))
 
-  pub names-exact : k ≤ mostNames → k ≡ length (listOf (lists t) m)
-  names-exact under = rw (list-names t m h) (omega arith)
-
--- "over 65,535 bytes are needed", by the number of bytes, cut
-module _ (t : Table) (m k : ℕ) (h : m < missions) (e : k ≡ min (length (lines (names t m))) (suc longestList)) where
-  pub bytes-over : longestList < k → ltb longestList (length (lines (listOf (lists t) m))) ≡ true
-  bytes-over over = rw (list-names t m h) (lt-ltb longestList (length (lines (names t m))) (omega arith))
-
-  pub bytes-under : k ≤ longestList → ltb longestList (length (lines (listOf (lists t) m))) ≡ false
-  bytes-under under = rw (list-names t m h) (le-ltb longestList (length (lines (names t m))) (omega arith))
-
-  pub bytes-exact : k ≤ longestList → k ≡ length (lines (listOf (lists t) m))
-  bytes-exact under = rw (list-names t m h) (omega arith)
+  pub list-exact : k ≤ most → k ≡ size (listOf (lists t) m)
+  list-exact under = rw (list-names t m h) (omega arith)
 
 pub name-short : (t : Table) (r n : ℕ) → n < length (words t r) → length (nthOf n (words t r)) ≤ longest
 name-short t r n h = each-in _ (words-short t r) (getD-in [] (words t r) n h)

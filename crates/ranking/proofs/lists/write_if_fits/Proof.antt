@@ -1,13 +1,14 @@
 -- `write_if_fits` meets its promise: on a sound book only refusals 5 and 6 are left. The number of bytes settles them, and then the list is written.
 -- Assumes nothing.
-use native.Mathlib.Omega.{arith}
-use mathlib.Core.Path.{_≡_, refl, sym}
-use mathlib.Core.List.{List}
 use Prim.Native.Nat.{ℕ}
+use native.Mathlib.Omega.{arith}
+use mathlib.Core.Path.{_≡_, refl}
+use mathlib.Core.List.{List}
 use borrow.Author.Needs.{needs}
 use borrow.Author.Tests.{lt-ltb, le-ltb}
 use lib.ListN.{length}
-use Rattle.letters.specs.Lists.{lines}
+use Rattle.letters.specs.Lists.{longestList, lines}
+use Rattle.sets.specs.Sets.{Words}
 use Rattle.model.specs.Lists.{listOf}
 use Rattle.model.specs.Call.Call.{write}
 use Rattle.model.specs.Run.{run}
@@ -16,9 +17,13 @@ use Rattle.rows.specs.Words.{names, lists}
 use Rattle.rows.proofs.Rules.{sound-facts, sound-length}
 use Rattle.rows.proofs.Books.{list-names}
 use Rattle.answers.specs.declared.cases.Refusal.the-variants as refusal
-use Rattle.ranking.proofs.Outcomes.{bytes-over, bytes-under, bytes-exact, put-refused, put-done}
+use Rattle.ranking.proofs.Outcomes.{list-over, list-under, list-exact, put-refused, put-done}
 use Rattle.ranking.proofs.lists.write_if_fits.Statement.{statement}
 use Rattle.ranking.proofs.lists.write_if_fits.Tie as tie
+
+-- the number of bytes that a list needs
+abbrev needed : Words → ℕ
+needed l = length (lines l)
 
 list-size-requires : tie.Need-list-size-requires
 list-size-requires c κs =
@@ -33,7 +38,7 @@ unfolding run
 returns c =
     let first = c .before .before .before .before in
     let (s, h) = first .pre in
-    let over = bytes-over (first .args .t .now) (first .args .m) _ h (c .before .list-size .ensures) (omega arith) in
+    let over = list-over needed longestList (first .args .t .now) (first .args .m) _ h (c .before .list-size .ensures) (omega arith) in
     put-refused _ (write _ _) _ refl refusal.List (rw (sound-length _ s, mission-under _ h, s, over))
 
 -- the number of bytes is exact
@@ -41,7 +46,7 @@ exact : (c : tie.Else1) → let args = c .before .before .before .before .args i
     c .before .list-size .result ≡ length (lines (listOf (lists (args .t .now)) (args .m)))
 exact c =
     let first = c .before .before .before .before in
-    bytes-exact (first .args .t .now) (first .args .m) _ (first .pre .1) (c .before .list-size .ensures) (omega arith)
+    list-exact needed longestList (first .args .t .now) (first .args .m) _ (first .pre .1) (c .before .list-size .ensures) (omega arith)
 
 returns-2 : tie.Need-returns-2
 unfolding run
@@ -49,7 +54,7 @@ returns-2 c =
     let sized = c .before in
     let first = sized .before .before .before .before in
     let (s, h) = first .pre in
-    let under = bytes-under (first .args .t .now) (first .args .m) _ h (sized .before .list-size .ensures) (omega arith) in
+    let under = list-under needed longestList (first .args .t .now) (first .args .m) _ h (sized .before .list-size .ensures) (omega arith) in
     let short = lt-ltb (length (first .args .out .now)) (length (lines (listOf (lists (first .args .t .now)) (first .args .m)))) (omega (arith, exact sized)) in
     put-refused _ (write _ _) _ refl refusal.Buffer (rw (sound-length _ s, mission-under _ h, s, under, short))
 
@@ -75,7 +80,7 @@ returns-3 c =
     let (s, h) = first .pre in
     let t = first .args .t .now in
     let bytes : List ℕ = lines (names t (first .args .m)) in
-    let under = bytes-under t (first .args .m) _ h (sized .before .list-size .ensures) (omega arith) in
+    let under = list-under needed longestList t (first .args .m) _ h (sized .before .list-size .ensures) (omega arith) in
     let fits = le-ltb (length (first .args .out .now)) (length (lines (listOf (lists t) (first .args .m)))) (omega (arith, exact sized)) in
     put-done _ (write _ _) _ refl _ _ (length bytes) bytes
     (rw (sound-length _ s, mission-under _ h, s, under, fits, list-names t (first .args .m) h))

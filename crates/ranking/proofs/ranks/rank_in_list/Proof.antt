@@ -3,11 +3,13 @@
 use native.Mathlib.Omega.{arith}
 use mathlib.Core.Path.{refl}
 use borrow.Author.Needs.{needs}
+use lib.ListN.{length}
 use Rattle.letters.proofs.Words.{name-parts}
+use Rattle.sets.specs.Cut.{mostNames}
 use Rattle.model.specs.Run.{run}
 use Rattle.model.proofs.Refusals.{mission-under}
 use Rattle.rows.proofs.Rules.{sound-facts, sound-length}
-use Rattle.ranking.proofs.Outcomes.{list-words, names-over, names-under}
+use Rattle.ranking.proofs.Outcomes.{list-words, list-over, list-under}
 use Rattle.ranking.proofs.ranks.rank_in_list.Statement.{statement}
 use Rattle.ranking.proofs.ranks.rank_in_list.Tie as tie
 
@@ -25,7 +27,7 @@ returns c =
     let first = c .before .before .before .before .before .before in
     let (s, h, n) = first .pre in
     let number = c .before .before .count-names .ensures .1 in
-    rw (sound-length _ s, mission-under _ h, n, s, names-over (first .args .t .now) (first .args .m) _ h number (omega arith))
+    rw (sound-length _ s, mission-under _ h, n, s, list-over (λ l. length l) mostNames (first .args .t .now) (first .args .m) _ h number (omega arith))
 
 start-requires : tie.Need-start-requires
 start-requires c κs = search needs
@@ -54,7 +56,7 @@ returns-2 c =
       mission-under _ h,
       n,
       s,
-      names-under (first .args .t .now) (first .args .m) _ h number (omega arith),
+      list-under (λ l. length l) mostNames (first .args .t .now) (first .args .m) _ h number (omega arith),
       list-words (first .args .t .now) (first .args .m) _ h (c .before .before .start .ensures),
       c .rank-from .ensures,
     )

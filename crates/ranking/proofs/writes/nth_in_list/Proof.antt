@@ -9,13 +9,14 @@ use lib.ListN.{length}
 use Rattle.letters.specs.Words.{Word, bytesOf}
 use Rattle.model.specs.Lists.{nthOf}
 use Rattle.model.specs.Call.Call.{nth}
+use Rattle.sets.specs.Cut.{mostNames}
 use Rattle.model.specs.Run.{run}
 use Rattle.model.proofs.Refusals.{mission-under}
 use Rattle.rows.specs.Words.{words}
 use Rattle.rows.proofs.Rules.{sound-facts, sound-length}
 use Rattle.answers.specs.declared.cases.Refusal.the-variants.{TooMany, NotUnder}
 use Rattle.listing.proofs.Steps.{start-listable}
-use Rattle.ranking.proofs.Outcomes.{list-words, names-over, names-under, names-exact, name-short, put-refused, put-done}
+use Rattle.ranking.proofs.Outcomes.{list-words, list-over, list-under, list-exact, name-short, put-refused, put-done}
 use Rattle.ranking.proofs.writes.nth_in_list.Statement.{statement}
 use Rattle.ranking.proofs.writes.nth_in_list.Tie as tie
 
@@ -33,7 +34,7 @@ returns c =
     let first = c .before .before .before .before .before .before in
     let (s, h, long) = first .pre in
     let number = c .before .before .count-names .ensures .1 in
-    put-refused _ (nth _ _ _) _ refl TooMany (rw (sound-length _ s, mission-under _ h, le-ltb _ _ long, s, names-over (first .args .t .now) (first .args .m) _ h number (omega arith)))
+    put-refused _ (nth _ _ _) _ refl TooMany (rw (sound-length _ s, mission-under _ h, le-ltb _ _ long, s, list-over (λ l. length l) mostNames (first .args .t .now) (first .args .m) _ h number (omega arith)))
 
 cast-if2 : tie.Need-cast-if2
 cast-if2 c = search needs
@@ -50,8 +51,8 @@ returns-2 c =
       mission-under _ h,
       le-ltb _ _ long,
       s,
-      names-under (first .args .t .now) (first .args .m) _ h number (omega arith),
-      sym (names-exact (first .args .t .now) (first .args .m) _ h number (omega arith)),
+      list-under (λ l. length l) mostNames (first .args .t .now) (first .args .m) _ h number (omega arith),
+      sym (list-exact (λ l. length l) mostNames (first .args .t .now) (first .args .m) _ h number (omega arith)),
       le-leb (c .before .before .before .count-names .result) (first .args .n) (omega arith),
     ))
 
@@ -72,7 +73,7 @@ under c =
     let first = c .before .before .before .before .before .before .before .before in
     let (s, h, long) = first .pre in
     let number = c .before .before .before .before .count-names .ensures .1 in
-    rw (← list-words (first .args .t .now) (first .args .m) _ h (c .start .ensures)) (omega (arith, names-exact (first .args .t .now) (first .args .m) _ h number (omega arith)))
+    rw (← list-words (first .args .t .now) (first .args .m) _ h (c .start .ensures)) (omega (arith, list-exact (λ l. length l) mostNames (first .args .t .now) (first .args .m) _ h number (omega arith)))
 
 write-word-requires : tie.Need-write-word-requires
 write-word-requires c κs =
@@ -105,7 +106,7 @@ returns-3 c =
       mission-under _ h,
       le-ltb _ _ long,
       s,
-      names-under (first .args .t .now) (first .args .m) _ h number (omega arith),
+      list-under (λ l. length l) mostNames (first .args .t .now) (first .args .m) _ h number (omega arith),
       list-words (first .args .t .now) (first .args .m) _ h (started .start .ensures),
       lt-leb _ _ (under started),
     ))
