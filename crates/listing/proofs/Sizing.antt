@@ -12,7 +12,7 @@ use Rattle.letters.specs.LetterSet.{flag}
 use Rattle.letters.specs.Lists.{longestList, line, lines}
 use Rattle.letters.proofs.LetterSet.{flag-le}
 use Rattle.letters.proofs.Loaded.{lines-long}
-use Rattle.sets.specs.Below.{total, over}
+use Rattle.sets.specs.Below.{total}
 use Rattle.sets.specs.Sets.{Words}
 use Rattle.sets.proofs.Below.{total-agree, length-over}
 use Rattle.sets.proofs.Cut.{cut-total}

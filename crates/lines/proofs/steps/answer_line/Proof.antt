@@ -47,7 +47,7 @@ add-t22 c =
     let answered = followed .before .before .before .before .before .before .before in
     let fits = names-inside (answered .answer .ensures) (followed .follow .ensures) (followed .follow .kept .1 .1 .0) in
     let same = answered .answer .kept .1 .1 .1 .0 in
-    let good = answered .before .before .before .before .before .before .before .good in
+    let good = start answered .good in
     search needs
 
 same-length : tie.Need-same-length
