@@ -11,7 +11,7 @@ ghost use Rattle.promises.specs.Books.{bookOf};
 ghost use Rattle.lines.specs.Requests.{requestOf};
 ghost use Rattle.lines.specs.Promises.{writtenBehind};
 
-// "the names follow in order, one per line": as the call write puts them, which is done where the count is.
+// "the names follow in order, one per line": as the call write puts them into what is left of the buffer.
 fn list_names(t: &[u16], m: u32, out: &mut [u8]) -> usize
     ensures long { λ k. ⌜ k ≡ length (writtenBehind (bookOf (now (t .entry))) (Request.Call Kind.Count m) (length (now (out .entry)))) ⌝ }
     ensures buffer { λ _. ⌜ now (out .exit) ≡ overlaid (writtenBehind (bookOf (now (t .entry))) (Request.Call Kind.Count m) (length (now (out .entry)))) (now (out .entry)) ⌝ }

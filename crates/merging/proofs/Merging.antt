@@ -3,8 +3,8 @@
 use Prim.Native.Nat.{ℕ, zero, suc, _+_, _≤_, _<_}
 use native.Mathlib.Omega.{arith}
 use native.Mathlib.Decide.{ℕ-discrete, decLt}
-use mathlib.Core.Path.{_≡_, refl, sym, _∙_}
-use mathlib.Core.Bool.{true, false≢true, and-eq-true-iff}
+use mathlib.Core.Path.{_≡_, refl, sym, _∙_, ap}
+use mathlib.Core.Bool.{Bool, true, false, _&&_, false≢true, and-eq-true-iff}
 use mathlib.Core.Logic.{inl, inr}
 use mathlib.Core.List.{List, [], _∷_}
 use denote.Ref.{RefT, now}
@@ -12,6 +12,7 @@ use lib.ListN.{length, drop, drop-of-length-le, length-map}
 use Rattle.letters.specs.Each.{every, Each}
 use Rattle.letters.specs.Words.{Word, wordOf, Spelled}
 use Rattle.letters.specs.Names.{longest, isName}
+use Rattle.letters.specs.Parts.{Part, SamePart}
 use Rattle.letters.specs.Lists.{nameAt, nameEnd, linesOf, isList, namesOf}
 use Rattle.letters.proofs.Words.{name-parts}
 use Rattle.letters.proofs.Order.{order-eq, after-before}
@@ -23,7 +24,7 @@ use Rattle.sets.proofs.Both.{both-none, both-first, both-tie, both-second}
 use Rattle.merging.specs.declared.places.Places.{Places}
 use Rattle.merging.specs.declared.places.Turn.{Turn}
 use Rattle.merging.specs.declared.places.Turn.the-variants.{First, Second, Both, Neither}
-use Rattle.merging.specs.Merging.{turnOf, bytesBy, nextBytes, Handed, NextPart, movedBy, placesAfter, fronts, takeOn, merged}
+use Rattle.merging.specs.Merging.{turnOf, bytesBy, nextBytes, Handed, NextPart, HandedOf, NextName, movedBy, placesAfter, fronts, takeOn, merged}
 use Rattle.merging.specs.Merging.{namesFrom, Listed, Lists, bothFrom, bytesLeft}
 use Rattle.merging.proofs.Turns.{Left, left}
 
@@ -216,6 +217,36 @@ handed-bytes Neither f s at part h = h
 pub next-bytes : (f s : RefT (List ℕ)) (at : Places) (part : RefT (List ℕ)) → NextPart f s at part
     → now part ≡ nextBytes (now f) (now s) at
 next-bytes f s at part h = handed-bytes (turnOf (now f) (now s) at) f s at part h
+
+-- "Any two outcomes that satisfy it are proved the same": two parts that are handed over, but for where an empty one stands
+part-same : {f : RefT (List ℕ)} {start end : ℕ} {p q : RefT (List ℕ)} → Part f start end p → Part f start end q → SamePart p q
+part-same a b =
+    record {
+      bytes = a .bytes ∙ sym (b .bytes);
+      block = λ _. a .block ∙ sym (b .block);
+      offset = λ _. a .offset ∙ sym (b .offset);
+    }
+
+none-same : {p q : RefT (List ℕ)} → now p ≡ [] → now q ≡ [] → SamePart p q
+none-same a b =
+    record { bytes = a ∙ sym b; block = λ some. absurd (omega (arith, ap length a)); offset = λ some. absurd (omega (arith, ap length a)) }
+
+module _ (f s : RefT (List ℕ)) (at : Places) (p q : RefT (List ℕ)) where
+  handed-same : (turn : Turn) → Handed turn f s at p → Handed turn f s at q → SamePart p q
+  handed-same First a b = part-same a b
+  handed-same Both a b = part-same a b
+  handed-same Second a b = part-same a b
+  handed-same Neither a b = none-same a b
+
+  pub part-tight : NextPart f s at p → NextPart f s at q → SamePart p q
+  part-tight = handed-same (turnOf (now f) (now s) at)
+
+  pub name-tight : NextName f s at p → NextName f s at q → SamePart p q
+  name-tight = go (isList (now f) && isList (now s))
+    where
+      go : (fine : Bool) → HandedOf fine f s at p → HandedOf fine f s at q → SamePart p q
+      go true a b = part-tight a b
+      go false a b = none-same a b
 
 -- ---- all names
 
