@@ -43,7 +43,7 @@
  *
  * Stack. combine keeps a table of pairs on the stack, 2,105,352 bytes; with its frames it was measured to
  * take under 2,120,000. Call it from a thread with 4 MiB of stack or more. The other calls were measured
- * to take under 20 KiB. This is measured and not proved.
+ * to take under 24 KiB, load and load_two the most. This is measured and not proved.
  *
  * An example, a whole program. It prints "0 1", "11 0", "0 1 SLEW":
  *
