@@ -69,13 +69,15 @@ fn all_rising(s: &[u8]) -> bool
         return true;
     }
     let mut at = 0;
-    let mut next = name_end(s, 0) + 1;
-    while next < s.len() {
-        if !is_before(name_at(s, at), name_at(s, next)) {
+    let mut end = name_end(s, 0);
+    while end + 1 < s.len() {
+        let next = end + 1;
+        let next_end = name_end(s, next);
+        if !is_before(&s[at..end], &s[next..next_end]) {
             return false;
         }
         at = next;
-        next = name_end(s, at) + 1;
+        end = next_end;
     }
     true
 }
