@@ -10,9 +10,9 @@ pub enum Refusal {
     Operation,
     // "no name (next: no prefix) by the rules above"
     Name,
-    // "no list by the rules above"
+    // "no list by the rules above"; write: "over 65,535 bytes are needed"
     List,
-    // "answer buffer under 24 bytes"
+    // "answer buffer under 24 bytes"; write: "the buffer is short"
     Buffer,
     // "book not sound"
     NotSound,
