@@ -5,8 +5,7 @@ use lib.Dec.{eqb}
 use Rattle.model.specs.Call.{Call}
 use Rattle.model.specs.Call.Call.{empty, check, ask, next, add, remove, clear, load, loadTwo, combine, count, rank, nth, write, used}
 
--- may the call change the list of mission n? empty changes all lists; add, remove, clear and both loads that of their mission, and combine that of
--- c
+-- may the call change the list of mission n? empty may change all lists; add, remove, clear and both loads that of their mission; combine that of c
 abbrev pub changes : Call → ℕ → Bool
 changes empty n = true
 changes (add m name) n = eqb n m

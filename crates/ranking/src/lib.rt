@@ -2,11 +2,11 @@
 // rows that the mission's list reaches; by these numbers a name's rank, the n-th name, and the bytes of the whole
 // list are found.
 mod counts;
-mod lists;
+mod nths;
 mod ranks;
 mod writes;
 
 pub use counts::count;
-pub use lists::write;
+pub use nths::nth;
 pub use ranks::rank;
-pub use writes::nth;
+pub use writes::write;

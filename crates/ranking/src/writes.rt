@@ -1,48 +1,41 @@
-// "nth: the name with n names before it".
+// write: "writes a mission's list to the front of a lent buffer as bytes that load takes back".
 use admitting::Admission;
 use admitting::admit;
-use admitting::if_fine;
 use answers::Answer;
 use answers::Refusal;
-use counting::MOST_NAMES;
-use counting::count_names;
-use letters::LONGEST;
-use listing::write_word;
-use rows::MOST_ROWS;
-use rows::start;
-ghost use Prim.Native.Nat.{_≤_, _<_};
+use letters::LONGEST_LIST;
+use listing::list_size;
+use listing::write_list;
+ghost use Prim.Native.Nat.{_<_};
 ghost use mathlib.Core.Path.{_≡_};
 ghost use mathlib.Core.Bool.{true};
 ghost use lib.ListN.{length};
-ghost use Rattle.letters.specs.Names.{longest};
 ghost use Rattle.model.specs.Lists.{missions};
+ghost use Rattle.model.specs.Call.Call.{write};
 ghost use Rattle.rows.specs.Rules.{sound};
-ghost use Rattle.model.specs.Call.Call.{nth};
 ghost use Rattle.answers.specs.Replies.{answerReply};
 ghost use Rattle.promises.specs.Promises.{Promised};
 
-// On a sound book and for a buffer that is long enough: refusals 9 and 10, and the answer.
-fn nth_in_list(t: &[u16], m: usize, n: u32, out: &mut [u8]) -> Answer
-    requires { ⌜ (sound (now t) ≡ true) × (m < missions) × (longest ≤ length (now out)) ⌝ }
-    ensures { λ a. ⌜ Promised (now (t .entry)) (now (t .entry)) (now (out .entry)) (now (out .exit)) (nth m n (length (now (out .entry)))) (answerReply a) ⌝ }
+// On a sound book: refusals 5 and 6, and the answer.
+fn write_if_fits(t: &[u16], m: usize, out: &mut [u8]) -> Answer
+    requires { ⌜ (sound (now t) ≡ true) × (m < missions) ⌝ }
+    ensures { λ a. ⌜ Promised (now (t .entry)) (now (t .entry)) (now (out .entry)) (now (out .exit)) (write m (length (now (out .entry)))) (answerReply a) ⌝ }
 {
-    let mut counts = [0u16; MOST_ROWS];
-    let names = count_names(t, m, &mut counts);
-    if MOST_NAMES < names {
-        return Answer::Refused(Refusal::TooMany);
+    let size = list_size(t, m) as usize;
+    if LONGEST_LIST < size {
+        return Answer::Refused(Refusal::List);
     }
-    if names as u32 <= n {
-        return Answer::Refused(Refusal::NotUnder);
+    if out.len() < size {
+        return Answer::Refused(Refusal::Buffer);
     }
-    let r = start(t, m) as usize;
-    Answer::Done(write_word(t, r, n, &counts, out) as u32)
+    Answer::Done(write_list(t, m, out) as u32)
 }
 
-pub fn nth(t: &[u16], m: u32, n: u32, out: &mut [u8]) -> Answer
-    ensures { λ a. ⌜ Promised (now (t .entry)) (now (t .entry)) (now (out .entry)) (now (out .exit)) (nth m n (length (now (out .entry)))) (answerReply a) ⌝ }
+pub fn write(t: &[u16], m: u32, out: &mut [u8]) -> Answer
+    ensures { λ a. ⌜ Promised (now (t .entry)) (now (t .entry)) (now (out .entry)) (now (out .exit)) (write m (length (now (out .entry)))) (answerReply a) ⌝ }
 {
-    match admit(t, m, if_fine(LONGEST <= out.len(), Refusal::Buffer)) {
-        Admission::Admitted => nth_in_list(t, m as usize, n, out),
+    match admit(t, m, Admission::Admitted) {
+        Admission::Admitted => write_if_fits(t, m as usize, out),
         Admission::Refused(r) => Answer::Refused(r),
     }
 }

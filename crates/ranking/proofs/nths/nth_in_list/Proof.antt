@@ -17,8 +17,8 @@ use Rattle.rows.proofs.Rules.{sound-facts, sound-length}
 use Rattle.answers.specs.declared.cases.Refusal.the-variants.{TooMany, NotUnder}
 use Rattle.listing.proofs.Steps.{start-listable}
 use Rattle.ranking.proofs.Outcomes.{list-words, list-over, list-under, list-exact, name-short, put-refused, put-done}
-use Rattle.ranking.proofs.writes.nth_in_list.Statement.{statement}
-use Rattle.ranking.proofs.writes.nth_in_list.Tie as tie
+use Rattle.ranking.proofs.nths.nth_in_list.Statement.{statement}
+use Rattle.ranking.proofs.nths.nth_in_list.Tie as tie
 
 slice-aggregate-count-names : tie.Need-slice-aggregate-count-names
 slice-aggregate-count-names c = search needs

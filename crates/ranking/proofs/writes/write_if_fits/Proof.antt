@@ -18,8 +18,8 @@ use Rattle.rows.proofs.Rules.{sound-facts, sound-length}
 use Rattle.rows.proofs.Books.{list-names}
 use Rattle.answers.specs.declared.cases.Refusal.the-variants as refusal
 use Rattle.ranking.proofs.Outcomes.{list-over, list-under, list-exact, put-refused, put-done}
-use Rattle.ranking.proofs.lists.write_if_fits.Statement.{statement}
-use Rattle.ranking.proofs.lists.write_if_fits.Tie as tie
+use Rattle.ranking.proofs.writes.write_if_fits.Statement.{statement}
+use Rattle.ranking.proofs.writes.write_if_fits.Tie as tie
 
 -- the number of bytes that a list needs
 abbrev needed : Words → ℕ

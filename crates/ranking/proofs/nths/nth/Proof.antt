@@ -13,8 +13,8 @@ use Rattle.promises.specs.Books.{bookOf}
 use Rattle.admitting.specs.Admission.{ifFine, firstTests}
 use Rattle.admitting.proofs.Admitting.{fine-true, first-begins, admitted, refused-first}
 use Rattle.ranking.proofs.Outcomes.{put-refused}
-use Rattle.ranking.proofs.writes.nth.Statement.{statement}
-use Rattle.ranking.proofs.writes.nth.Tie as tie
+use Rattle.ranking.proofs.nths.nth.Statement.{statement}
+use Rattle.ranking.proofs.nths.nth.Tie as tie
 
 if-fine-requires : tie.Need-if-fine-requires
 if-fine-requires c κs = search needs

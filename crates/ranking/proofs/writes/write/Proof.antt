@@ -9,8 +9,8 @@ use Rattle.admitting.specs.declared.admits.Admission.the-variants.{Admitted}
 use Rattle.admitting.specs.Admission.{firstTests}
 use Rattle.admitting.proofs.Admitting.{admitted, refused-first}
 use Rattle.ranking.proofs.Outcomes.{put-refused}
-use Rattle.ranking.proofs.lists.write.Statement.{statement}
-use Rattle.ranking.proofs.lists.write.Tie as tie
+use Rattle.ranking.proofs.writes.write.Statement.{statement}
+use Rattle.ranking.proofs.writes.write.Tie as tie
 
 admit-requires : tie.Need-admit-requires
 admit-requires c κs = search needs
