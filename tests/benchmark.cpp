@@ -750,7 +750,8 @@ Sound books, written by hand, on which a call takes as long as we could make it 
 - **combine, one key**: as the third, but all those rows have one key in the library's index of rows, so that
   each of them is looked at for each pair.
 - **load of two lists**: as load, by two lists of such names, which come by turns.
-- **write**: 65,535 bytes of such names, in the same book. Each name enters rows anew from its third letter on.
+- **write**: 65,535 bytes of such names, in the same book. Each name enters rows anew from its third letter
+  on.
 - **write, refused**: a list with more names than could ever be written, in a book where each row has an arc
   for every letter.
 )";
