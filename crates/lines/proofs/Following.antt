@@ -88,7 +88,7 @@ some-names test (v ∷ vs) = go (some-names test vs) (test v)
 abbrev pub Held : ℕ → List Words → Type 0
 Held n ls = Each (λ l. length (lines l) ≤ n) ls
 
-pub held-later : {n k : ℕ} → n ≤ k → (ls : List Words) → Held n ls → Held k ls
+held-later : {n k : ℕ} → n ≤ k → (ls : List Words) → Held n ls → Held k ls
 held-later h [] held = tt
 held-later h (l ∷ ls) held = (omega (arith, held .0), held-later h ls (held .1))
 
@@ -105,14 +105,14 @@ module _ (b : Book) (text : List ℕ) (n : ℕ) (held : Held n (b .lists)) where
   abbrev later : ℕ
   later = n + (length text + 1)
 
+  kept : Held later (b .lists)
+  kept = held-later (omega arith) (b .lists) held
+
   -- what a call leaves
   by-rule : (kind : Kind) (m : ℕ) → Held later (rule b (callOf kind m (nameOf text)) .done .lists) → Held later (run b (callOf kind m (nameOf text)) .lists)
   by-rule kind m done =
       rw (run-ruled b (callOf kind m (nameOf text)))
-      (ruled-either (λ o. Held later (o .lists)) b (rule b (callOf kind m (nameOf text))) (λ k. held-later (omega arith) (b .lists) held) done)
-
-  kept : Held later (b .lists)
-  kept = held-later (omega arith) (b .lists) held
+      (ruled-either (λ o. Held later (o .lists)) b (rule b (callOf kind m (nameOf text))) (λ k. kept) done)
 
   pub held-after : (asked : Request) → Held later (listsAfterLine b text asked)
   unfolding delete
