@@ -19,8 +19,15 @@
  * lent. The two lists of load_two are only read, so they may overlap each other. Two threads may read one
  * table at the same time.
  *
- * Names are bytes, without an end: `0` to `9`, `A` to `Z` and `_`, in this order, 1 to 24 of them. Any
- * bytes may be given; what is no name is refused. Missions are 0 to 15.
+ * Names are bytes, without an end: 1 to 24 letters. The letters are `_`, `0` to `9` and `A` to `Z`, with
+ * the numbers 0, 1 to 10 and 11 to 36, and names are ordered by these: `_` stands before `0`, though its
+ * byte stands behind that of `Z`. So a list that was sorted by bytes, as by strcmp, need not be one that
+ * load takes. Any bytes may be given; what is no name is refused. Missions are 0 to 15.
+ *
+ * Old tables. In an earlier library the digits had the numbers 0 to 9, `A` to `Z` 10 to 35, and `_` 36. A
+ * table that it left is not read as it was meant, and no call can tell: a row has a place for each number, so
+ * the table is as sound as it was, and in each name the letters become those that have their numbers now,
+ * SLEW becomes RKDV. Let the earlier library write the lists, sort them by the new order, and load them.
  *
  * The answer is number * 2^32 + value; BOOK_NUMBER and BOOK_VALUE take it apart. Number 0 is done. Any
  * other number is a refusal: the value is 0, *followed or *letters becomes 0, and the table and the
@@ -98,7 +105,7 @@ uint64_t book_check(const uint16_t *table, size_t length);
 uint64_t book_ask(const uint16_t *table, size_t length, uint32_t mission, const uint8_t *name, size_t name_length, uint32_t *followed);
 
 /* Which letters may follow the prefix on the mission's list? The value is how many they are; *letters
-   is their set: bit x for letter x, digits from 0, capitals from 10, `_` 36. On a refusal it is 0. The
+   is their set: bit x for letter x, `_` 0, digits from 1, capitals from 11. On a refusal it is 0. The
    prefix has 0 to 24 letters. On any numbers, as ask. */
 uint64_t book_next(const uint16_t *table, size_t length, uint32_t mission, const uint8_t *prefix, size_t prefix_length, uint64_t *letters);
 
@@ -111,7 +118,8 @@ uint64_t book_remove(uint16_t *table, size_t length, uint32_t mission, const uin
 uint64_t book_clear(uint16_t *table, size_t length, uint32_t mission);
 
 /* Put all names of a list on the mission's list, which must be empty. The list is bytes: each name
-   followed by 0x0A, names strictly rising, at most 65,535 bytes. The value is the number of names. */
+   followed by 0x0A, names strictly rising (`_` before `0`), at most 65,535 bytes. The value is the number
+   of names. */
 uint64_t book_load(uint16_t *table, size_t length, uint32_t mission, const uint8_t *list, size_t list_length);
 
 /* Put all names of two lists on the mission's list, which must be empty. Each is a list as load takes it,

@@ -15,7 +15,7 @@ using Table = std::vector<uint16_t>;
 using Rows = std::vector<uint16_t>;
 constexpr unsigned width = 40, letters = 37, most_room = 1000;
 constexpr std::size_t longest_list = 65535; // bytes that load takes
-inline const std::string alphabet = "0123456789ABCDEFGHIJKLMNOPQRSTUVWXYZ_";
+inline const std::string alphabet = "_0123456789ABCDEFGHIJKLMNOPQRSTUVWXYZ";
 
 using Targets = std::array<uint16_t, letters>;
 
@@ -169,7 +169,7 @@ inline Table book_of_like_beginnings() {
 // As many names of 24 letters as so many lists can have, one list or two, whose names come by turns. They differ in the
 // first three letters and go on alike: so load asks for the same rows again for each.
 inline std::vector<std::string> lists_that_end_alike(unsigned many) {
-    const std::string end = std::string(BOOK_LONGEST - 3, '_') + '\n';
+    const std::string end = std::string(BOOK_LONGEST - 3, alphabet.back()) + '\n';
     std::vector<std::string> lists(many);
     unsigned turn = 0;
     for (const char first : alphabet)
@@ -194,7 +194,7 @@ inline std::size_t rows_asked(const std::string &list) {
 // on each name enters rows anew, which have an arc for the last letter alone.
 inline std::string longest_list_to_write() {
     const std::string list = lists_that_end_alike(1)[0];
-    return list + std::string(longest_list - list.size() - 1, '_') + '\n';
+    return list + std::string(longest_list - list.size() - 1, alphabet.back()) + '\n';
 }
 
 // Rows in layers, each with an arc to every row of the layer below. The list has nearly all names of up to 24 letters,

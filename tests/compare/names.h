@@ -21,8 +21,8 @@ namespace {
 constexpr size_t longest_name = 24;
 constexpr size_t longest_list = 65535;
 
-// "Letter numbers follow byte order: digits are 0 to 9, capitals 10 to 35, underscore 36."
-constexpr std::string_view letters = "0123456789ABCDEFGHIJKLMNOPQRSTUVWXYZ_";
+// Wish 3: "Letter numbers become: underscore 0, digits 1 to 10, capitals 11 to 36."
+constexpr std::string_view letters = "_0123456789ABCDEFGHIJKLMNOPQRSTUVWXYZ";
 constexpr uint8_t no_letter = letters.size();
 
 constexpr std::array<uint8_t, 256> numbers_of_bytes() {

@@ -132,7 +132,7 @@ p10 =
           ∷ [];
     }
 
--- "P11 List 00, 01, 10: rank of 01 is 1, of 1 is 2, of _ is 3; nth 2 is 10; nth 3 refused 10."
+-- "P11 List 00, 01, 10: rank of 01 is 1, of 1 is 2, of _ is 3; nth 2 is 10; nth 3 refused 10." 02, wish 3: "In P11 the rank of _ becomes 0"
 abbrev p11 : Script
 p11 =
     record {
@@ -141,18 +141,18 @@ p11 =
           gives (load 0 (loadable ("00" ∷ "01" ∷ "10" ∷ []))) 0 3
           ∷ gives (rank 0 (bytes "01")) 0 1
           ∷ gives (rank 0 (bytes "1")) 0 2
-          ∷ gives (rank 0 (bytes "_")) 0 3
+          ∷ gives (rank 0 (bytes "_")) 0 0
           ∷ writes (nth 0 2 24) "10"
           ∷ gives (nth 0 3 24) 10 0
           ∷ [];
     }
 
--- "P12 List SLEW, SLEWA: next after SLEW is 1,024 and 1."
+-- "P12 List SLEW, SLEWA: next after SLEW is 1,024 and 1." 02, wish 3: "in P12 next after SLEW becomes 2,048 and 1."
 abbrev p12 : Script
 p12 =
     record {
       room = anyRoom;
-      steps = gives (load 0 (loadable ("SLEW" ∷ "SLEWA" ∷ []))) 0 2 ∷ pair (next 0 (bytes "SLEW")) 1024 1 ∷ [];
+      steps = gives (load 0 (loadable ("SLEW" ∷ "SLEWA" ∷ []))) 0 2 ∷ pair (next 0 (bytes "SLEW")) 2048 1 ∷ [];
     }
 
 abbrev pub table : List Script

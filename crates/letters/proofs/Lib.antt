@@ -10,4 +10,5 @@ pub mod LetterSet
 pub mod Lines
 pub mod NameBytes
 pub mod Loaded
+mod Ranges
 mod Compare

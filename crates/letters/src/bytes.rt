@@ -10,22 +10,20 @@ pub fn letter_of(b: u8) -> usize
     ensures { λ r. ⌜ r ≡ letter b ⌝ }
 {
     match b {
-        0x30..=0x39 => (b - 0x30) as usize,
-        0x41..=0x5A => (b - 0x41 + 10) as usize,
-        0x5F => 36,
+        0x5F => 0,
+        0x30..=0x39 => (b - 0x30 + 1) as usize,
+        0x41..=0x5A => (b - 0x41 + 11) as usize,
         _ => LETTERS,
     }
 }
 
-// The byte of letter number x.
+// The byte of letter number x; of any other number the underscore's.
 pub fn byte_of(x: usize) -> u8
     ensures { λ r. ⌜ r ≡ byteOf x ⌝ }
 {
-    if x < 10 {
-        0x30 + x as u8
-    } else if x < 36 {
-        0x41 + (x - 10) as u8
-    } else {
-        0x5F
+    match x {
+        1..=10 => 0x30 + (x - 1) as u8,
+        11..=36 => 0x41 + (x - 11) as u8,
+        _ => 0x5F,
     }
 }
