@@ -404,6 +404,7 @@ Jobs jobs_on(const Lists &lists, unsigned first, unsigned asked_missions) {
     return std::make_shared<std::vector<Job>>(jobs);
 }
 
+// What a contestant gets.
 struct Work {
     Lists lists;
     Jobs jobs;

@@ -14,12 +14,12 @@ use Rattle.letters.specs.Below.{allBelow}
 use Rattle.letters.specs.Letters.{letters, letter, byteOf}
 use Rattle.letters.specs.Words.{wordOf, bytesOf, Spelled, same}
 use Rattle.letters.specs.Names.{isPrefix, isName}
-use Rattle.letters.proofs.Ranges.{each-byte}
+use Rattle.letters.proofs.Ranges.{behindLetters, each-byte}
 use Rattle.letters.proofs.Words.{prefix-parts, name-parts}
 use Rattle.letters.proofs.Order.{same-eq}
 
--- a byte below 0x60 is no letter, or the byte of its letter number
-comes-back : allBelow 0x60 (λ b. leb letters (letter b) || eqb (byteOf (letter b)) b) ≡ true
+-- one test that computes: each byte is no letter, or the byte of its letter number
+comes-back : allBelow behindLetters (λ b. leb letters (letter b) || eqb (byteOf (letter b)) b) ≡ true
 unfolding letter byteOf allBelow
 comes-back = refl
 

@@ -1,5 +1,5 @@
--- The ranges of bytes and of letter numbers, for the proofs of this crate alone: a number is within two bounds, or below them, or above. From
--- 0x60 on no byte is a letter, so what is said of all bytes is one test that computes, over those below. Assumes nothing.
+-- The ranges of bytes and of letter numbers, for the proofs of this crate alone: a number is within two bounds, or below them, or above. What is
+-- said of all bytes is one test that computes, over those up to the last letter: none behind it is one. Assumes nothing.
 use Prim.Native.Nat.{ℕ, _≤_, _<_}
 use mathlib.Core.Path.{_≡_}
 use mathlib.Core.Bool.{Bool, true, false, and-false}
@@ -22,12 +22,16 @@ module _ (low high b : ℕ) where
   pub within-above : high < b → within low high b ≡ false
   within-above h = rw (lt-leb b high h) (and-false (leb low b))
 
+-- the underscore is the last byte that is a letter
+abbrev pub behindLetters : ℕ
+behindLetters = 0x60
+
 pub above-capitals : (b : ℕ) → 0x5A < b → (b ≡ 0x5F → ⊥) → letter b ≡ letters
 unfolding letter
 above-capitals b h other = rw (ne-eqb b 0x5F other, within-above 0x30 0x39 b (omega arith), within-above 0x41 0x5A b h)
 
-pub each-byte : (test : ℕ → Bool) → allBelow 0x60 test ≡ true → (b : ℕ) → (test b ≡ true) ⊎ (letter b ≡ letters)
+pub each-byte : (test : ℕ → Bool) → allBelow behindLetters test ≡ true → (b : ℕ) → (test b ≡ true) ⊎ (letter b ≡ letters)
 each-byte test all b =
-    by-test (ltb b 0x60)
-    (λ e. inl (all-below test 0x60 all b (ltb-true b 0x60 e)))
-    (λ e. let high = ltb-false b 0x60 e in inr (above-capitals b (omega arith) (omega arith)))
+    by-test (ltb b behindLetters)
+    (λ e. inl (all-below test behindLetters all b (ltb-true b behindLetters e)))
+    (λ e. let high = ltb-false b behindLetters e in inr (above-capitals b (omega arith) (omega arith)))

@@ -25,7 +25,7 @@ letter b =
     (cond (within 0x41 0x5A b) (b - 0x41 + 11)
     letters))
 
--- the byte of a letter number; that of any other number is the underscore
+-- the byte of a letter number; of any other number, the underscore's
 unfoldable pub byteOf : ℕ → ℕ
 byteOf x =
     cond (within 1 10 x) (0x30 + (x - 1))
