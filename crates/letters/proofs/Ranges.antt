@@ -1,5 +1,5 @@
 -- The ranges of bytes and of letter numbers, for the proofs of this crate alone: a number is within two bounds, or below them, or above. What is
--- said of all bytes is one test that computes, over those up to the last letter: none behind it is one. Assumes nothing.
+-- said of all bytes is one test that computes, over those up to the underscore: no byte behind it is a letter. Assumes nothing.
 use Prim.Native.Nat.{ℕ, _≤_, _<_}
 use mathlib.Core.Path.{_≡_}
 use mathlib.Core.Bool.{Bool, true, false, and-false}
@@ -22,7 +22,7 @@ module _ (low high b : ℕ) where
   pub within-above : high < b → within low high b ≡ false
   within-above h = rw (lt-leb b high h) (and-false (leb low b))
 
--- the underscore is the last byte that is a letter
+-- the byte behind the underscore, which is the last that is a letter
 abbrev pub behindLetters : ℕ
 behindLetters = 0x60
 
