@@ -57,7 +57,7 @@ pub fn is_name(s: &[u8]) -> bool
     is_spelled(s)
 }
 
-// How the word of a stands to the word of b.
+// How the word of a stands to the word of b. Most letters that are the same, are the same byte.
 pub fn order_of(a: &[u8], b: &[u8]) -> Order
     ensures { λ r. ⌜ r ≡ orderIs (order (wordOf (now (a .entry))) (wordOf (now (b .entry)))) ⌝ }
 {
@@ -66,13 +66,15 @@ pub fn order_of(a: &[u8], b: &[u8]) -> Order
         if b.len() <= i {
             return Order::After;
         }
-        let x = letter_of(a[i]);
-        let y = letter_of(b[i]);
-        if x < y {
-            return Order::Before;
-        }
-        if y < x {
-            return Order::After;
+        if a[i] != b[i] {
+            let x = letter_of(a[i]);
+            let y = letter_of(b[i]);
+            if x < y {
+                return Order::Before;
+            }
+            if y < x {
+                return Order::After;
+            }
         }
         i += 1;
     }
