@@ -1,4 +1,6 @@
 // The answers of the calls: an enum for each kind of answer, and for every case 01's number and values.
+#![tactic(auto)]
+
 mod cases;
 mod replies;
 

@@ -2,6 +2,8 @@
 // names rise. So a group of them is a row, and the groups of one letter more are its targets, made before
 // it. Each name is looked at a few times, not once for each of its letters: a group hands back how many of
 // its letters the next name behind it shares, and that tells every group around it whether to go on.
+#![tactic(auto)]
+
 mod depths;
 mod groups;
 

@@ -1,5 +1,7 @@
 // The calls that read a table, and empty: the first tests, then the layers below. No call asks anything of its
 // arguments.
+#![tactic(auto)]
+
 mod asks;
 mod checks;
 mod empties;

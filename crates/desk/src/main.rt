@@ -1,5 +1,7 @@
 // The desk program: reads standard input, takes step after step on a book of room 486, and writes what each step
 // prints. All that can be got wrong but reading and writing is in the crate `lines`.
+#![tactic(auto)]
+
 use libc::{STDIN_FILENO, STDOUT_FILENO};
 use lines::{INPUT, NUMBERS, OUT, beginning, step};
 

@@ -1,5 +1,7 @@
 // How a change ends: it was settled, and is done or refused for room; and what that is worth to the calls that
 // change a list.
+#![tactic(auto)]
+
 ghost use Rattle.std.specs.Prelude.{◌≡◌};
 ghost use Rattle.ending.specs.Ending.{settled_answer};
 

@@ -1,5 +1,7 @@
 // The C boundary, for script hosts, tests and benchmarks: the calls under the names of include/book.h. Each does
 // one call and packs its reply into one number, from which a host takes it again.
+#![tactic(auto)]
+
 ghost use Rattle.std.specs.Prelude.{◌≡◌, [], length};
 ghost use Rattle.answers.specs.Replies.{answer_reply};
 ghost use Rattle.model.specs.Call.Call.{empty, check, ask, next, add, remove, clear, load, load_two, combine, count, rank, nth, write, used};

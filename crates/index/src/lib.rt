@@ -2,6 +2,8 @@
 // going through the others, and knows how many arcs lead to each row. It is built where a book is checked (rule 5
 // asks for those arcs, rule 6 for rows that agree) and lent to whatever makes and frees rows in that call. Where
 // all rows fall into one bucket, a search goes through all of them.
+#![tactic(auto)]
+
 mod builds;
 mod enters;
 mod finds;

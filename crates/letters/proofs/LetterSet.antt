@@ -155,7 +155,7 @@ first-low n k test set rest later p false t e =
     (record {
       below = omega (arith, r.below);
       passes = r.passes;
-      least = λ y. elim y [ zero ↦ λ h. t | suc z ↦ λ h. r.least z (omega arith) ];
+      least = λ y. elim y as (λ z. z < suc (count_trailing_zeros k rest) → test z ≡ false) [ zero ↦ λ h. t | suc z ↦ λ h. r.least z (omega arith) ];
     })
 
 -- "trailing zeros the first letter"

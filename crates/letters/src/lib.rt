@@ -2,6 +2,8 @@
 // name, a prefix, a list for load, the order of two names, the names of a list one by one, and sets
 // of letters as 64-bit numbers. Each promise is an equation with a definition of specs/; whoever is
 // above goes by those definitions and the laws of proofs/, and never by a letter's number.
+#![tactic(auto)]
+
 mod bytes;
 mod lists;
 mod names;

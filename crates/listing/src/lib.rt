@@ -1,5 +1,7 @@
 // Listing: the name with n names before it, found by the counts of the rows; and a mission's list as bytes that
 // load takes back: how many they are, counted by rows, and the bytes.
+#![tactic(auto)]
+
 mod lists;
 mod sizes;
 mod word;

@@ -1,1 +1,2 @@
 // Demand 3 on the table: definitions and theorems, no code.
+#![tactic(auto)]

@@ -1,1 +1,2 @@
 // The calls on sixteen plain sets of names: definitions, no code.
+#![tactic(auto)]

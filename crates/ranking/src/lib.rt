@@ -1,6 +1,8 @@
 // The calls that count names: count, rank, nth and write. After the first tests each counts the words from the
 // rows that the mission's list reaches; by these numbers a name's rank, the n-th name, and the bytes of the whole
 // list are found.
+#![tactic(auto)]
+
 mod counts;
 mod nths;
 mod ranks;

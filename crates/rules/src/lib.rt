@@ -3,6 +3,8 @@
 // rule 3, eight at once where they are 0; on the way rule 3 counts the arcs that lead to each row, for
 // rule 5, and keeps the key of the row in the index, for rule 6 and for whatever makes rows later in the
 // call.
+#![tactic(auto)]
+
 mod arcs;
 mod book;
 mod ends;

@@ -3,23 +3,9 @@
 use Prim.Native.Nat.{ℕ, ◌+◌, ◌-◌, ◌≤◌, ◌<◌}
 use mathlib.Core.Path.{◌≡◌, sym}
 use native.Mathlib.Omega.{arith}
-use borrow.Author.Rules.{rules}
 use Rattle.letters.specs.Letters.{byte_of}
 use Rattle.letters.proofs.Ranges.{within_both, within-below, within-above}
-use Rattle.letters.proofs.bytes.byte_of.Statement.{statement}
-use Rattle.letters.proofs.bytes.byte_of.Tie as tie
-
-cast-result : tie.Need-overflow-cast-result
-cast-result c = search rules
-
-add-result : tie.Need-overflow-add-result
-add-result c = search rules
-
-cast-result-2 : tie.Need-overflow-cast-result-2
-cast-result-2 c = search rules
-
-add-result-2 : tie.Need-overflow-add-result-2
-add-result-2 c = search rules
+use Rattle.letters.proofs.bytes.byte_of.Goals as goal
 
 -- what `byte_of` says of a number of each range
 module _ (x : ℕ) where
@@ -39,17 +25,14 @@ module _ (x : ℕ) where
   unfolding byte_of
   above-capitals h = rw (within-above 1 10 x (omega arith), within-above 11 36 x h)
 
-returns : tie.Need-returns
-returns c = sym (digit _ (omega arith) (omega arith))
+pub returns-in-1-to-10 : goal.returns-in-1-to-10
+returns-in-1-to-10 c = sym (digit _ (omega arith) (omega arith))
 
-returns-2 : tie.Need-returns-2
-returns-2 c = sym (capital _ (omega arith) (omega arith))
+pub returns-in-11-to-36 : goal.returns-in-11-to-36
+returns-in-11-to-36 c = sym (capital _ (omega arith) (omega arith))
 
-returns-3 : tie.Need-returns-3
-returns-3 c = sym (below-digits _ (omega arith))
+pub returns-in_default : goal.returns-in_default
+returns-in_default c = sym (below-digits _ (omega arith))
 
-returns-4 : tie.Need-returns-4
-returns-4 c = sym (above-capitals _ (omega arith))
-
-pub byte-of-spec : {M : Type 1} → statement M
-byte-of-spec = tie.close (tie.spec cast-result add-result cast-result-2 add-result-2 returns returns-2 returns-3 returns-4)
+pub returns-in_default-2 : goal.returns-in_default-2
+returns-in_default-2 c = sym (above-capitals _ (omega arith))

@@ -1,0 +1,94 @@
+use Prim.Native.Nat.{◌+◌, ◌-◌, ◌<◌}
+use mathlib.Core.Path.{◌≡◌, refl, sym, ◌∙◌}
+use mathlib.Core.Bool.{◌&&◌}
+use native.Mathlib.Omega.{arith}
+use lib.ListN.{length, take, drop, drop_of_length-le}
+use Rattle.letters.specs.Lists.{lines_of, rises, names_of}
+use Rattle.letters.proofs.Lines.{name-part, name_end-le, rises-more, rises-last}
+use Rattle.letters.proofs.lists.all_rising.Lts as lts
+use Rattle.letters.proofs.lists.all_rising.Tie as tie
+use Rattle.letters.proofs.lists.all_rising.Reads as reads
+use Rattle.letters.proofs.lists.all_rising.Goals as goal
+
+abbrev At-At-loop : Type 0
+At-At-loop = lts.At-loop tie.the-claims reads.Pre reads.Post goal.the-invariant-loop-end goal.the-decreases-loop-end
+
+abbrev At-After-name_end2 : Type 0
+At-After-name_end2 = lts.After-name_end2 tie.the-claims reads.Pre reads.Post goal.the-invariant-loop-end goal.the-decreases-loop-end
+
+abbrev At-After-is_before : Type 0
+At-After-is_before = lts.After-is_before tie.the-claims reads.Pre reads.Post goal.the-invariant-loop-end goal.the-decreases-loop-end
+
+pub returns-then-s-eq0 : goal.returns-then-s-eq0
+unfolding rises lines_of
+returns-then-s-eq0 c = rw (drop_of_length-le c.args.s.now {i = 0} (omega arith))
+
+pub loop-end-init : goal.loop-end-init
+loop-end-init c = (omega arith, c.name_end-end.ensures, refl)
+
+-- a line ends within the list
+ends : (c : At-At-loop) → c.loop-end.end < length c.args.s.now + 1
+ends c = omega (arith, name_end-le c.args.s.now c.loop-end.at (omega (arith, c.loop-end.invariant.0)), c.loop-end.invariant.1)
+
+pub overflow_add-end : goal.overflow_add-end
+overflow_add-end c = omega (arith, ends c.before)
+
+pub overflow_add-next : goal.overflow_add-next
+overflow_add-next c = omega (arith, ends c.before.before)
+
+pub slice_bounds-is_before-count : goal.slice_bounds-is_before-count
+slice_bounds-is_before-count c = omega (arith, c.loop-end.invariant.1)
+
+pub slice_bounds-is_before-start : goal.slice_bounds-is_before-start
+slice_bounds-is_before-start c = omega (arith, c.loop-end.invariant.1)
+
+pub slice_bounds-is_before-end : goal.slice_bounds-is_before-end
+slice_bounds-is_before-end c = omega (arith, ends c.before.before.before)
+
+-- and so does the next one
+next-ends : (c : At-After-name_end2) →
+    c.name_end-next_end.result < length c.args.s.now + 1
+next-ends c =
+    let s = c.args.s.now in
+    omega (arith, name_end-le s (c.loop-end.end + 1) (omega (arith, c.loop-end-test.true)), c.name_end-next_end.ensures)
+
+pub slice_bounds-is_before-count-in-loop-end : goal.slice_bounds-is_before-count-in-loop-end
+slice_bounds-is_before-count-in-loop-end c = omega (arith, c.name_end-next_end.ensures)
+
+pub slice_bounds-is_before-start-in-loop-end : goal.slice_bounds-is_before-start-in-loop-end
+slice_bounds-is_before-start-in-loop-end c = omega (arith, c.name_end-next_end.ensures)
+
+pub slice_bounds-is_before-end-in-loop-end : goal.slice_bounds-is_before-end-in-loop-end
+slice_bounds-is_before-end-in-loop-end c = omega (arith, next-ends c.before.before)
+
+-- once the two names are compared
+compared : (c : At-After-is_before) →
+    let s = c.args.s.now in
+    rises (names_of s) ≡ (c.is_before.result && rises (names_of (drop (c.loop-end.end + 1) s)))
+compared c =
+    let s = c.args.s.now in
+    let at = c.loop-end.at in
+    let end = c.loop-end.end in
+    let inv = c.loop-end.invariant in
+    inv.2
+    ∙ rises-more s at (end + 1) (take (end - at) (drop at s)) (take (c.name_end-next_end.result - (end + 1)) (drop (end + 1) s)) inv.0 (rw inv.1)
+    c.loop-end-test.true (rw inv.1 (name-part s at)) (rw c.name_end-next_end.ensures (name-part s (end + 1)))
+    ∙ rw c.is_before.ensures
+
+pub returns-then-not-is_before : goal.returns-then-not-is_before
+returns-then-not-is_before c = rw (compared c.before.before, c.if-not-is_before.true)
+
+pub loop-end-smaller : goal.loop-end-smaller
+loop-end-smaller c = omega (arith, c.loop-end.invariant.0, c.loop-end.invariant.1)
+
+pub loop-end-preserved : goal.loop-end-preserved
+loop-end-preserved c = (
+  c.loop-end-test.true,
+  c.name_end-next_end.ensures,
+  rw (compared c.before.before, c.if-not-is_before.false),
+)
+
+pub returns : goal.returns
+returns c =
+    let inv = c.loop-end.invariant in
+    sym (inv.2 ∙ rises-last _ _ inv.0 (rw inv.1 at c.loop-end-test.false))

@@ -1,0 +1,566 @@
+#!/usr/bin/env python3
+"""Turns the Proof.antt files of a crate, written for the older Rattle, into Invariants.antt and Answers.antt.
+
+usage: tools/answers.py CRATE NAMES.json [FUNCTION..]
+
+NAMES.json is what `rt check --generated DIR --old-names` writes in the crate's folder. Answers that only search are dropped, since the check
+searches by itself. A file that says something that is not understood keeps the words and gets a line 'look:' on standard output.
+"""
+import json
+import os
+import re
+import sys
+
+WORD = r"[^\s(){}\[\].,;:=λ]+"
+
+
+def norm(s):
+    return s.replace("_", "-").replace("+", "")
+
+
+class Fun:
+    """What the check says of one function."""
+
+    def __init__(self, key, names, module):
+        self.key, self.module = key, module
+        self.needs = {norm(o): n for o, n in names["needs"]}
+        self.settled = {norm(s) for s in names["settled"]}
+        self.places = names["places"]
+        self.by_name = names["places_by_name"]
+        self.parent = {p[0]: p[1] for p in self.places}
+        self.index = {p[0]: i for i, p in enumerate(self.places)}
+        self.arms = names["arms"]
+        self.clauses = names["clauses"]
+        self.loops = {norm(l[0][0]): (l[0][1], l[1]) for l in names["loops"]}
+        self.changed = {norm(l[0][0]): c for l, c in zip(names["loops"], names["changed"])}
+        self.asked = names["asked"]
+        self.asked_at = {norm(o): at for (o, n), at in zip(names["needs"], names["asked_at"])}
+        self.old_asked = {norm(o): names["asked"].get(o) for o, n in names["needs"]}
+        self.places_norm = {norm(p[0]): p[0] for p in self.places}
+        self.pre = names["pre"]
+
+    def up(self, place, k):
+        for _ in range(k):
+            if place is None:
+                return None
+            place = self.parent.get(place)
+        return place
+
+    def chain(self, place):
+        while place is not None:
+            yield place
+            place = self.parent.get(place)
+
+    def step(self, place, step, rest):
+        """The new words of `.step.rest` seen at a place: (new step, new rest), or None."""
+        if step in ("args", "lifetimes", "auto", "ranges", "utf8"):
+            return step, rest
+        if step in ("pre", "requires"):
+            if isinstance(self.pre, list) and rest and rest[0].isdigit():
+                return "requires", [self.pre[int(rest[0])]] + rest[1:]
+            return "requires", rest
+        # an arm's facts, under the names that the arm has now
+        for at in self.chain(place):
+            i = self.index[at]
+            arm = self.arms[i] if i < len(self.arms) else None
+            if arm:
+                name, _, facts = arm
+                for new, old, path in facts:
+                    if norm(old) == norm(step) and path and rest[: len(path)] == path:
+                        return name, [new] + rest[len(path):]
+        for at in self.chain(place):
+            i = self.index[at]
+            old, new = self.places[i][2]
+            if norm(old) == norm(step):
+                fields = dict((a, b) for a, b in self.places[i][4]) if self.places[i][4] else {}
+                if rest and rest[0] in fields:
+                    rest = [fields[rest[0]]] + rest[1:]
+                elif rest and rest[0] == "branch":
+                    rest = ["branch-raw"] + rest[1:]
+                labels = self.clauses[i] if i < len(self.clauses) else None
+                if labels and len(rest) > 1 and rest[0] == "ensures" and rest[1].isdigit():
+                    try:
+                        rest = ["ensures", labels[int(rest[1])]] + rest[2:]
+                    except (IndexError, KeyError, TypeError):
+                        pass
+                return new, rest
+        return None
+
+
+def blocks(lines):
+    out, cur = [], []
+    for l in lines:
+        if l.strip() == "":
+            if cur:
+                out.append(cur)
+                cur = []
+        else:
+            cur.append(l)
+    if cur:
+        out.append(cur)
+    return out
+
+
+def signature(block):
+    """The name and the type of a block's declaration, and where its body begins."""
+    i = 0
+    while i < len(block) and block[i].lstrip().startswith("--"):
+        i += 1
+    if i == len(block):
+        return None
+    m = re.match(r"(\s*)((?:abbrev |pub |unfoldable )*)(" + WORD + r") :(?: |$)(.*)", block[i])
+    if not m:
+        return None
+    indent, mods, name, typ = m.groups()
+    j = i + 1
+    while j < len(block) and not (len(block[j]) - len(block[j].lstrip()) <= len(indent)):
+        typ += "\n" + block[j]
+        j += 1
+    return indent, mods, name, typ, i, j
+
+
+def body_head(block, j, indent, name):
+    """Index of the first clause line, and its arguments."""
+    k = j
+    while k < len(block) and block[k].strip().startswith("unfolding "):
+        k += 1
+    if k == len(block):
+        return None
+    m = re.match(re.escape(indent) + re.escape(name) + r"((?:\s+(?:" + WORD + r"|\{[^}]*\}|\([^)]*\)))*)\s*=(.*)", block[k], re.S)
+    if not m:
+        return None
+    return k, m.group(1).split(), m.group(2)
+
+
+class Turn:
+    def __init__(self, fun, path, said, cycle=False):
+        self.fun, self.path, self.said, self.cycle = fun, path, said, cycle
+        self.helpers = {}  # name -> list of (param index, place) for contexts, for a lemma over a context
+        self.views = {}  # name -> place that a projection of contexts gives
+        self.lts = False
+
+    def look(self, text):
+        self.said.append(f"look: {self.path}: {text}")
+
+    def place_of(self, old):
+        return self.fun.places_norm.get(norm(old))
+
+    def context_type(self, m):
+        place = self.place_of(m.group(2))
+        if place is None:
+            self.look(f"no place {m.group(2)}")
+            return m.group(0)
+        self.lts = True
+        return f"At-{place}"
+
+    def walk(self, text, roots, wrapped):
+        """Rewrites each word that begins at a context. roots: variable -> (place, root variable, befores)."""
+        fun = self.fun
+        names = "|".join(re.escape(r) for r in sorted(roots, key=len, reverse=True))
+        if not names:
+            return text
+        pat = re.compile(r"(?<![\w'.\-₀-₉])(" + names + r")(?![\w'\-₀-₉])((?:\.[\w'₀-₉\-]+)*)")
+
+        def sub(m):
+            place, root, n = roots[m.group(1)]
+            parts = m.group(2).split(".")[1:]
+            while parts and parts[0] == "before":
+                parts.pop(0)
+                place = fun.up(place, 1)
+                n += 1
+            if place is None:
+                self.look(f"above the start: {m.group(0)}")
+                return m.group(0)
+            if not parts:
+                return root + ".before" * (n + (1 if root in wrapped else 0)) if n else root + (".before" if root in wrapped and self.naked else "")
+            got = fun.step(place, parts[0], parts[1:])
+            if not got:
+                self.look(f"no step {parts[0]} at {place}: {m.group(0)}")
+                return root + "." + ".".join(parts)
+            return root + "." + ".".join([got[0]] + got[1])
+
+        self.naked = True
+        return pat.sub(sub, text)
+
+    def body(self, text, roots, wrapped):
+        """A body, with its `let`s of contexts taken out."""
+        out, roots = [], dict(roots)
+        changed = True
+        while changed:
+            changed = False
+            for m in re.finditer(r"let (" + WORD + r") = ((?:(" + WORD + r") )?\(?(" + "|".join(map(re.escape, sorted(roots, key=len, reverse=True))) + r")((?:\.before)*)\)?) in(?=\s)[ \t]*\n?[ \t]*", text):
+                new, view, root, bs = m.group(1), m.group(3), m.group(4), m.group(5)
+                place, base, n = roots[root]
+                k = bs.count(".before")
+                if view:
+                    if view not in self.views:
+                        continue
+                    target = self.views[view]
+                    at, steps = self.fun.up(place, k), 0
+                    while at is not None and at != target:
+                        at, steps = self.fun.up(at, 1), steps + 1
+                    if at is None:
+                        self.look(f"{view} from {root}")
+                        continue
+                    roots[new] = (target, base, n + k + steps)
+                else:
+                    roots[new] = (self.fun.up(place, k), base, n + k)
+                lead = ""
+                tail = text[m.end():]
+                text = text[: m.start()] + lead + tail
+                changed = True
+                break
+        # a view called in the middle of a term
+        for view, target in self.views.items():
+            def inline(m):
+                root = m.group(1) or m.group(3)
+                bs = m.group(2) or m.group(4) or ""
+                place, base, n = roots[root]
+                at, k = self.fun.up(place, bs.count(".before")), 0
+                while at is not None and at != target:
+                    at, k = self.fun.up(at, 1), k + 1
+                return root + bs + ".before" * k
+            alts = "|".join(map(re.escape, sorted(roots, key=len, reverse=True)))
+            text = re.sub(r"\(" + re.escape(view) + r" (?:(" + alts + r")((?:\.before)*))\)(?=\.)", inline, text)
+        return self.walk(text, roots, wrapped)
+
+
+def balanced_params(typ):
+    """Splits a type at its top-level arrows."""
+    parts, depth, cur, i = [], 0, "", 0
+    while i < len(typ):
+        ch = typ[i]
+        if ch in "({":
+            depth += 1
+        elif ch in ")}":
+            depth -= 1
+        if ch == "→" and depth == 0:
+            parts.append(cur.strip())
+            cur = ""
+        else:
+            cur += ch
+        i += 1
+    parts.append(cur.strip())
+    return parts
+
+
+ATOM = r"(?:_|[\w'.\-]+|\([^()]*\))"
+
+
+def plain_not(text):
+    """Of `if !x` the fact is now said of x itself."""
+    text = re.sub(r"\(?not-true " + ATOM + r" (c[\w'.\-]*)\.true-raw\)?", lambda m: balance(m.group(0), m.group(1) + ".true"), text)
+    return re.sub(r"\(?not-false " + ATOM + r" (c[\w'.\-]*)\.false-raw\)?", lambda m: balance(m.group(0), m.group(1) + ".false"), text)
+
+
+def balance(was, now):
+    if was.startswith("(") and was.endswith(")"):
+        return now
+    return ("(" if was.startswith("(") else "") + now + (")" if was.endswith(")") else "")
+
+
+def as_record(text, labels):
+    """A tuple at the end of the text, as a record with these labels; of any other text None."""
+    end = len(text.rstrip())
+    if end == 0 or text[end - 1] != ")":
+        return None
+    depth, i = 0, end - 1
+    cuts = []
+    while i >= 0:
+        if text[i] in ")]}":
+            depth += 1
+        elif text[i] in "([{":
+            depth -= 1
+            if depth == 0:
+                break
+        elif text[i] == "," and depth == 1:
+            cuts.append(i)
+        i -= 1
+    if depth or (text[:i].strip() and not re.match(r"\s*(rw|simp|let) ", text)):
+        return None
+    cuts = [i] + cuts[::-1] + [end - 1]
+    items = [text[a + 1 : b].strip() for a, b in zip(cuts, cuts[1:])]
+    if items and items[-1] == "":
+        items.pop()
+    if len(items) != len(labels):
+        return None
+    body = "; ".join(f"{l} = {x}" for l, x in zip(labels, items))
+    made = "record { " + body + " }"
+    return text[:i] + (f"({made})" if text[:i].strip() else made) + text[end:]
+
+
+CTX = re.compile(r"(tie|lts)\.((?:Start|At|After|In|Then|Else|Joined)[\w'\-]*)((?: (?:invariant|decreases)[\w'\-]*| claims| at(?= )| path\.Post| [\w\-]+\.Post| [\w\-]+\.Pre)*)")
+
+
+def turn_file(crate, folder, fun, path, said):
+    with open(path, encoding="utf-8") as f:
+        lines = f.read().split("\n")
+    t = Turn(fun, path, said)
+    head, uses, rest = [], [], []
+    i = 0
+    while i < len(lines) and lines[i].startswith("--"):
+        head.append(lines[i])
+        i += 1
+    while i < len(lines):
+        if lines[i].startswith("use "):
+            uses.append(lines[i])
+        else:
+            rest.append(lines[i])
+        i += 1
+    module = fun.module
+    uses = [u for u in uses if ".Statement.{" not in u and not re.search(r"\.Tie( as tie)?$", u)]
+    inv_blocks, keep, answers = [], [], []
+    fun_name = module.split(".")[-1]
+    for b in blocks(rest):
+        s = signature(b)
+        if s is None:
+            keep.append([b, None])
+            continue
+        indent, mods, name, typ, i0, j = s
+        if re.search(r"-spec$|_spec$", name) and "statement" in typ:
+            continue
+        m = re.match(r"tie\.(invariant|decreases)-([\w'\-]+)$", typ.strip())
+        if m:
+            kind, loop = m.groups()
+            new, vars_ = fun.loops.get(norm(loop), (None, None))
+            if new is None:
+                t.look(f"no loop {loop}")
+                keep.append([b, None])
+                continue
+            ch = fun.changed[norm(loop)]
+            k, args, first = body_head(b, j, indent, name)
+            full = [("l.initial." if c else "l.") + v for v, c in zip(vars_, ch)] + ["l." + v for v, c in zip(vars_, ch) if c]
+            text = "\n".join([first] + b[k + 1:])
+            if len(args) != len(full):
+                t.look(f"loop {loop}: {args} for {full}")
+            else:
+                pairs = dict(zip(args, full))
+                text = re.sub(r"(?<![\w'.\-₀-₉])(" + "|".join(map(re.escape, sorted(pairs, key=len, reverse=True))) + r")(?![\w'\-₀-₉])", lambda m: pairs[m.group(1)], text)
+            inv_blocks.append((kind, new, b[:i0], b[j:k], text))
+            continue
+        m = re.match(r"tie\.Need-([\w'\-+]+)((?: (?:invariant|decreases)[\w'\-]*)*)$", typ.strip())
+        if m:
+            need = m.group(1)
+            new = fun.needs.get(norm(need))
+            if new is None and need.startswith("overflow-"):
+                new = fun.needs.get(norm(need[9:]))
+                need = need[9:] if new else need
+            if new is None and need.startswith("slice-bounds-"):
+                new = fun.needs.get(norm("part-" + need[13:]))
+                need = "part-" + need[13:] if new else need
+            got = body_head(b, j, indent, name)
+            if got is None:
+                t.look(f"no body of {name}")
+                keep.append([b, None])
+                continue
+            k, args, first = got
+            text = "\n".join([first] + b[k + 1:])
+            if new is None:
+                if text.strip() not in ("search rules",) and not text.strip().startswith("search"):
+                    t.look(f"no goal {need}: {text.strip()[:200]}")
+                continue
+            if text.strip() == "search rules":
+                continue
+            answers.append((b, i0, j, k, args, text, need, new))
+            keep.append([b, len(answers) - 1])
+            continue
+        keep.append([b, None])
+    # helpers over contexts
+    for it in list(keep):
+        b, a = it
+        if a is not None:
+            continue
+        s = signature(b)
+        if s is None:
+            continue
+        indent, mods, name, typ, i0, j = s
+        if not CTX.search(typ):
+            continue
+        parts = balanced_params(typ)
+        ctxs = []
+        explicit = 0
+        for p in parts[:-1]:
+            m = CTX.search(p)
+            if m and (p.startswith("(") or CTX.fullmatch(p)):
+                ctxs.append((explicit, t.place_of(m.group(2))))
+            if not p.startswith("{"):
+                explicit += 1
+        last = CTX.fullmatch(parts[-1])
+        if last and ctxs:
+            t.views[name] = t.place_of(last.group(2))
+            keep.remove(it)
+            continue
+        t.helpers[name] = ctxs
+    out = []
+    for b, a in keep:
+        if a is not None:
+            b, i0, j, k, args, text, need, new = answers[a]
+            asked = fun.asked_at[norm(need)]
+            ctx = args[0]
+            if ctx.startswith("("):
+                t.look(f"a pattern for the context of {new}")
+            roots = {ctx: (asked[0], ctx, 0)}
+            text = t.body(text, roots, {ctx})
+            text = plain_not(text)
+            labels = fun.old_asked[norm(need)]
+            if labels:
+                got = as_record(text, labels)
+                if got is None:
+                    t.look(f"{new} has clauses {labels}")
+                else:
+                    text = got
+            more = [x for x in args[1:] if x not in ("κs",)]
+            said_args = " ".join([ctx] + more)
+            out.append("\n".join(b[:i0] + [f"pub {new} : goal.{new}"] + b[j:k] + [f"{new} {said_args} ={text}"]))
+            continue
+        s = signature(b)
+        if s and s[2] in t.helpers:
+            indent, mods, name, typ, i0, j = s
+            got = body_head(b, j, indent, name)
+            if got is None:
+                t.look(f"helper {name} by clauses")
+                out.append("\n".join(b))
+                continue
+            k, args, first = got
+            roots = {}
+            ex = [x for x in args if not x.startswith("{")]
+            for n, place in t.helpers[name]:
+                if n < len(ex):
+                    roots[ex[n]] = (place, ex[n], 0)
+            named = dict(roots)
+            for m in re.finditer(r"\((" + WORD + r") : " + CTX.pattern + r"\)", typ):
+                named[m.group(1)] = (t.place_of(m.group(3)), m.group(1), 0)
+            typ2 = t.body(typ, named, set())
+            typ2 = CTX.sub(t.context_type, typ2)
+            text = plain_not(t.body("\n".join([first] + b[k + 1:]), roots, set()))
+            out.append("\n".join(b[:i0] + [f"{mods}{name} : {typ2}"] + b[j:k] + [f"{name} {' '.join(args)} ={text}"]))
+            continue
+        if any(CTX.search(l) for l in b):
+            t.look("a context in: " + b[0])
+        out.append("\n".join(b))
+    return t, head, uses, inv_blocks, out
+
+
+def words(text):
+    return set(re.findall(r"[^\s(){}\[\].,;=λ]+", text))
+
+
+def used(use, text):
+    """The use line with only the names that stand in the text, or None."""
+    m = re.match(r"use ([^{]+)\.\{(.*)\}$", use)
+    if not m:
+        m = re.match(r"use (\S+)(?: as (\S+))?$", use)
+        name = (m.group(2) or m.group(1).split(".")[-1]) if m else None
+        return use if m and re.search(r"(?<![\w'\-.])" + re.escape(name) + r"\.", text) else None
+    have = words(text)
+    names = []
+    for n in re.split(r",\s*", m.group(2)):
+        plain = n.split(" as ")[-1]
+        if "◌" in plain:
+            parts = [p for p in plain.split("◌") if p]
+            ok = all(p in text for p in parts)
+        else:
+            ok = plain in have or re.search(r"(?<![\w'\-])" + re.escape(plain) + r"(?![\w'\-])", text)
+        if ok:
+            names.append(n)
+    return f"use {m.group(1)}.{{{', '.join(names)}}}" if names else None
+
+
+def main():
+    crate, names_file = sys.argv[1], sys.argv[2]
+    only = set(sys.argv[3:])
+    with open(names_file) as f:
+        names = json.load(f)
+    said = []
+    root = os.path.join("crates", crate)
+    for key, val in names.items():
+        m = re.match(rf"Rattle-{crate}-proofs\.(.*)\.Lts$", key)
+        if not m:
+            continue
+        module = m.group(1)
+        folder = os.path.join(root, "proofs", *module.split("."))
+        path = os.path.join(folder, "Proof.antt")
+        if not os.path.exists(path) or (only and module.split(".")[-1] not in only):
+            continue
+        fun = Fun(key, val, module)
+        t, head, uses, inv, out = turn_file(crate, folder, fun, path, said)
+        full = f"Rattle.{crate}.proofs.{module}"
+        body = "\n\n".join(out)
+        # what the invariants need goes before them
+        inv_text = "\n".join(x[4] for x in inv)
+        shared = []
+        if inv:
+            need = words(inv_text)
+            grow = True
+            while grow:
+                grow = False
+                for o in list(out):
+                    if o in shared:
+                        continue
+                    heads = [signature([l]) for l in o.split("\n")]
+                    decl = {h[2] for h in heads if h} | {m.group(1) for m in re.finditer(r"(?:record|data) (\S+)", o)}
+                    if decl & need and not o.lstrip().startswith("pub returns") and "goal." not in o:
+                        # the whole module block goes along
+                        shared.append(o)
+                        need |= words(o)
+                        grow = True
+        # a nested module keeps together: blocks that are indented belong to the last that is not
+        files = {}
+        if inv:
+            groups, cur = [], []
+            for o in out:
+                if o.startswith("  ") and cur:
+                    cur.append(o)
+                else:
+                    cur = [o]
+                    groups.append(cur)
+            moved = [g for g in groups if any(o in shared for o in g)]
+            out = [o for g in groups if g not in moved for o in g]
+            pubs, text = [], []
+            for g in moved:
+                for o in g:
+                    ls = o.split("\n")
+                    res = []
+                    for n, l in enumerate(ls):
+                        m = re.match(r"(\s*)((?:abbrev |unfoldable )*)(record |data )?(" + WORD + r")((?: \([^)]*\))*) :(?: |$)", l)
+                        if m and not l.strip().startswith(("--", "pub", "use")) and (n == 0 or ls[n - 1].strip().startswith("--") or m.group(3) or ls[n - 1].strip() == "" or "where" in ls[0]):
+                            if m.group(3):
+                                l = f"{m.group(1)}pub {m.group(3)}{l.lstrip()[len(m.group(3)):]}"
+                            else:
+                                l = f"{m.group(1)}{m.group(2)}pub {l.lstrip()[len(m.group(2)):]}"
+                            pubs.append(m.group(4))
+                        res.append(l)
+                    text.append("\n".join(res))
+            for kind, new, comment, unfold, b in inv:
+                text.append("\n".join(comment + [f"abbrev pub {kind}-{new} : goal.{kind}-{new}"] + unfold + [f"{kind}-{new} l ={b}"]))
+            itext = "\n\n".join(text)
+            iuses = [u for u in (used(u, itext) for u in uses) if u] + [f"use {full}.Given as goal"]
+            files["Invariants.antt"] = "\n".join(head + iuses) + "\n\n" + itext + "\n"
+        body = "\n\n".join(out)
+        if body.strip():
+            auses = [u for u in (used(u, body) for u in uses) if u]
+            if inv:
+                mine = [p for p in pubs if re.search(r"(?<![\w'\-])" + re.escape(p) + r"(?![\w'\-])", body)]
+                if mine:
+                    auses.append(f"use {full}.Invariants.{{{', '.join(dict.fromkeys(mine))}}}")
+            pre = ""
+            if t.lts:
+                auses += [f"use {full}.Lts as lts", f"use {full}.Tie as tie", f"use {full}.Reads as reads"]
+                loops = "".join(f" goal.the-invariant-{n} goal.the-decreases-{n}" for n, _ in fun.loops.values())
+                for p in dict.fromkeys(re.findall(r"(?<![\w'\-])At-((?:Start|At|After|In|Then|Else|Joined)[\w'\-]*)", body)):
+                    pre += f"abbrev At-{p} : Type 0\nAt-{p} = lts.{p} tie.the-claims reads.Pre reads.Post{loops}\n\n"
+            auses.append(f"use {full}.Goals as goal")
+            files["Answers.antt"] = "\n".join((head if not inv else []) + auses) + "\n\n" + pre + body + "\n"
+        for f, text in files.items():
+            with open(os.path.join(folder, f), "w", encoding="utf-8") as o:
+                o.write(text)
+        os.remove(path)
+        if not files:
+            try:
+                os.removedirs(folder)
+            except OSError:
+                pass
+    print("\n".join(said))
+
+
+main()
