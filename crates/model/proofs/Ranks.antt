@@ -28,7 +28,7 @@ rising-nth w (v ∷ vs) rising m = go (rising-nth w vs rising.1) (same w v) refl
   where
     go : (member w vs ≡ true → nth_of (rank_of w vs) vs ≡ w) → (b : Bool) → same w v ≡ b → (b || member w vs) ≡ true
         → nth_of (rank_of w (v ∷ vs)) (v ∷ vs) ≡ w
-    go rest true e m = rw (same-eq w v e, order-refl, none_before v vs rising.0)
+    go rest true e m = let it = same-eq w v e in rw (← it, order-refl, none_before w vs (rw (← it) at rising.0))
     go rest false e m = rw (member-above v vs rising.0 w m) (rest m)
 
 pub nth-rank : (w : Word) (l : Words) → Plain l → member w l ≡ true → nth_of (rank_of w l) l ≡ w

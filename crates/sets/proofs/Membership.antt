@@ -72,7 +72,7 @@ module _ {A B : Type 0} (f : A → B) where
   map-in (a ∷ l) i = elim (cons-in i) [ inl e ↦ (a, here refl, e) | inr j ↦ let (c, g, e) = map-in l j in (c, there g, e) ]
 
 -- what is said of each thing of a list, or of some thing
-pub each_in : {A : Type 0} (P : A → Type 0) {l : List A} → Each P l → {a : A} → In a l → P a
+pub each_in : {A : Type 0} (P : A → Type 0) {a : A} {l : List A} → Each P l → In a l → P a
 each_in P h (here e) = rw e h.0
 each_in P h (there i) = each_in P h.1 i
 
