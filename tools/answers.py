@@ -21,8 +21,11 @@ def norm(s):
 class Fun:
     """What the check says of one function."""
 
-    def __init__(self, key, names, module):
-        self.key, self.module = key, module
+    def __init__(self, key, names, module, cycle=None):
+        self.key, self.module, self.cycle = key, module, cycle
+        self.typed = names["typed"]
+        self.handed = bool(names["asked"]) or any(names["clauses"]) or bool(names["pre"])
+        self.asked_places = {at[0] for at in names["asked_at"]}
         self.needs = {norm(o): n for o, n in names["needs"]}
         self.settled = {norm(s) for s in names["settled"]}
         self.places = names["places"]
@@ -38,6 +41,13 @@ class Fun:
         self.old_asked = {norm(o): names["asked"].get(o) for o, n in names["needs"]}
         self.places_norm = {norm(p[0]): p[0] for p in self.places}
         self.pre = names["pre"]
+
+    def wrapped(self, place):
+        i = self.index[place]
+        return bool(self.typed[i]) or bool(i < len(self.arms) and self.arms[i])
+
+    def named(self, place):
+        return self.by_name[self.index[place]]
 
     def up(self, place, k):
         for _ in range(k):
@@ -56,6 +66,10 @@ class Fun:
         if step in ("args", "lifetimes", "auto", "ranges", "utf8"):
             return step, rest
         if step in ("pre", "requires"):
+            if self.cycle and rest and rest[0] == "0":
+                return "decreases", rest[1:]
+            if self.cycle and rest and rest[0] == "1":
+                rest = rest[1:]
             if isinstance(self.pre, list) and rest and rest[0].isdigit():
                 return "requires", [self.pre[int(rest[0])]] + rest[1:]
             return "requires", rest
@@ -78,6 +92,9 @@ class Fun:
                 elif rest and rest[0] == "branch":
                     rest = ["branch-raw"] + rest[1:]
                 labels = self.clauses[i] if i < len(self.clauses) else None
+                labels = labels and labels.get("fields")
+                if labels and rest == ["ensures"]:
+                    return new, [labels]
                 if labels and len(rest) > 1 and rest[0] == "ensures" and rest[1].isdigit():
                     try:
                         rest = ["ensures", labels[int(rest[1])]] + rest[2:]
@@ -150,8 +167,11 @@ class Turn:
         if place is None:
             self.look(f"no place {m.group(2)}")
             return m.group(0)
+        arg = " t" if self.fun.cycle else ""
+        if place in self.fun.asked_places and not self.fun.wrapped(place):
+            return f"goal.{self.fun.named(place)}{arg}"
         self.lts = True
-        return f"At-{place}"
+        return f"At-{place}{arg}"
 
     def walk(self, text, roots, wrapped):
         """Rewrites each word that begins at a context. roots: variable -> (place, root variable, befores)."""
@@ -177,6 +197,8 @@ class Turn:
             if not got:
                 self.look(f"no step {parts[0]} at {place}: {m.group(0)}")
                 return root + "." + ".".join(parts)
+            if got[1] and isinstance(got[1][0], list):
+                return "(" + ", ".join(f"{root}.{got[0]}.ensures.{l}" for l in got[1][0]) + ")"
             return root + "." + ".".join([got[0]] + got[1])
 
         self.naked = True
@@ -307,6 +329,10 @@ def turn_file(crate, folder, fun, path, said):
         else:
             rest.append(lines[i])
         i += 1
+    claims = None
+    if fun.cycle:
+        rest, claims = plain_cycle(rest, fun, t)
+    t.claims = claims
     module = fun.module
     uses = [u for u in uses if ".Statement.{" not in u and not re.search(r"\.Tie( as tie)?$", u)]
     inv_blocks, keep, answers = [], [], []
@@ -359,7 +385,7 @@ def turn_file(crate, folder, fun, path, said):
                 if text.strip() not in ("search rules",) and not text.strip().startswith("search"):
                     t.look(f"no goal {need}: {text.strip()[:200]}")
                 continue
-            if text.strip() == "search rules":
+            if text.strip() == "search rules" and j == k:
                 continue
             answers.append((b, i0, j, k, args, text, need, new))
             keep.append([b, len(answers) - 1])
@@ -400,8 +426,8 @@ def turn_file(crate, folder, fun, path, said):
             if ctx.startswith("("):
                 t.look(f"a pattern for the context of {new}")
             roots = {ctx: (asked[0], ctx, 0)}
-            text = t.body(text, roots, {ctx})
-            text = plain_not(text)
+            text = t.body(text, roots, {ctx} if fun.wrapped(asked[0]) else set())
+            text = plain_not(labelled_steps(text, fun))
             labels = fun.old_asked[norm(need)]
             if labels:
                 got = as_record(text, labels)
@@ -410,7 +436,9 @@ def turn_file(crate, folder, fun, path, said):
                 else:
                     text = got
             more = [x for x in args[1:] if x not in ("κs",)]
-            said_args = " ".join([ctx] + more)
+            said_args = " ".join((["t"] if fun.cycle else []) + [ctx] + more)
+            if fun.cycle:
+                text = helper_calls(text, t)
             out.append("\n".join(b[:i0] + [f"pub {new} : goal.{new}"] + b[j:k] + [f"{new} {said_args} ={text}"]))
             continue
         s = signature(b)
@@ -432,13 +460,69 @@ def turn_file(crate, folder, fun, path, said):
                 named[m.group(1)] = (t.place_of(m.group(3)), m.group(1), 0)
             typ2 = t.body(typ, named, set())
             typ2 = CTX.sub(t.context_type, typ2)
-            text = plain_not(t.body("\n".join([first] + b[k + 1:]), roots, set()))
+            if fun.cycle:
+                typ2 = "(t : ℕ) → " + helper_calls(typ2, t)
+                args = ["t"] + args
+            text = plain_not(labelled_steps(t.body("\n".join([first] + b[k + 1:]), roots, set()), fun))
+            if fun.cycle:
+                text = helper_calls(text, t)
             out.append("\n".join(b[:i0] + [f"{mods}{name} : {typ2}"] + b[j:k] + [f"{name} {' '.join(args)} ={text}"]))
             continue
         if any(CTX.search(l) for l in b):
             t.look("a context in: " + b[0])
         out.append("\n".join(b))
     return t, head, uses, inv_blocks, out
+
+
+def labelled_steps(text, fun):
+    """A step under a `let`, whose promise has labels: said whole it is a tuple of them."""
+    for m in re.finditer(r"let (" + WORD + r") = c\.([\w'\-]+) in", text):
+        for p, l in zip(fun.places, fun.clauses):
+            if l and l.get("fields") and p[2][1] == m.group(2):
+                name = m.group(1)
+                labels = l["fields"]
+                text = re.sub(
+                    r"(?<![\w'.\-])" + re.escape(name) + r"\.ensures(?:\.(\d+))?(?![\w.\-])",
+                    lambda k: f"{name}.ensures.{labels[int(k.group(1))]}" if k.group(1) else "(" + ", ".join(f"{name}.ensures.{x}" for x in labels) + ")",
+                    text,
+                )
+                text = re.sub(r"(?<![\w'.\-])" + re.escape(name) + r"\.ensures\.(\d+)(?=\.)", lambda k: f"{name}.ensures.{labels[int(k.group(1))]}", text)
+                break
+    return text
+
+
+def helper_calls(text, t):
+    for h in t.helpers:
+        text = re.sub(r"(?<![\w'.\-])" + re.escape(h) + r"(?![\w'\-])", h + " t", text)
+    return text
+
+
+def plain_cycle(lines, fun, t):
+    """The declarations of a proof of a cycle, as those of a plain function: without the measure's module."""
+    bs, claims = [], None
+    for b in blocks(lines):
+        if b[0].startswith("abbrev μ") or b[0].startswith("module _ (bound"):
+            if b[0].startswith("abbrev μ"):
+                fun.measure = "\n".join(b[1:])
+            b = b[1:] if b[0].startswith("module") else []
+            if not b:
+                continue
+        b = [l[2:] if l.startswith("  ") else l for l in b]
+        while b and b[0].startswith("-- what is given at the measure"):
+            b = b[1:]
+        if not b:
+            continue
+        if re.match(r"abbrev (at|below) :", b[0]):
+            continue
+        if re.match(r"abbrev claims :", b[0]):
+            claims = "\n".join(b[1:])
+            continue
+        text = "\n".join(b)
+        text = re.sub(r"lts\.Need-([\w'\-+]+) claims at [\w\-]+\.Post", r"tie.Need-\1", text)
+        text = re.sub(r"lts\.(invariant|decreases)-([\w'\-]+)(?: claims| at| [\w\-]+\.Post)*", r"tie.\1-\2", text)
+        text = re.sub(r"(?<![\w'.\-])bound(?![\w'\-])", "t", text)
+        bs += text.split("\n") + [""]
+    return bs, claims
 
 
 def words(text):
@@ -474,15 +558,15 @@ def main():
     said = []
     root = os.path.join("crates", crate)
     for key, val in names.items():
-        m = re.match(rf"Rattle-{crate}-proofs\.(.*)\.Lts$", key)
+        m = re.match(rf"Rattle-{crate}-proofs\.(.*)\.Lts(?:-(\w+))?$", key)
         if not m:
             continue
-        module = m.group(1)
+        module, cycle = m.groups()
         folder = os.path.join(root, "proofs", *module.split("."))
         path = os.path.join(folder, "Proof.antt")
         if not os.path.exists(path) or (only and module.split(".")[-1] not in only):
             continue
-        fun = Fun(key, val, module)
+        fun = Fun(key, val, module, cycle)
         t, head, uses, inv, out = turn_file(crate, folder, fun, path, said)
         full = f"Rattle.{crate}.proofs.{module}"
         body = "\n\n".join(out)
@@ -506,6 +590,12 @@ def main():
                         grow = True
         # a nested module keeps together: blocks that are indented belong to the last that is not
         files = {}
+        if cycle:
+            params = next((v for k, v in val["params"].items() if k.endswith("::" + cycle)), [])
+            measure = re.sub(r"(?<![\w.])a((?:\.1)*)\.0(?![\w])", lambda m: "l." + params[m.group(1).count(".1")], fun.measure.split("=", 1)[-1].strip())
+            inv = inv + [("decreases", cycle, [], [], " " + measure)]
+            if len(inv) == 1:
+                pubs = []
         if inv:
             groups, cur = [], []
             for o in out:
@@ -544,11 +634,19 @@ def main():
                 if mine:
                     auses.append(f"use {full}.Invariants.{{{', '.join(dict.fromkeys(mine))}}}")
             pre = ""
-            if t.lts:
+            if t.lts and cycle:
+                auses += [u for u in uses if re.search(r"\.(Reads|Kinds) as ", u) or ".Lts-" in u and u not in auses]
+                loops = "".join(f" goal.the-invariant-{n} goal.the-decreases-{n}" for n, _ in fun.loops.values())
+                body_claims = re.sub(r"^claims =", "claims t =", t.claims or "", flags=re.M).replace("below", f"goal.{cycle}-below t")
+                pre = f"abbrev claims : ℕ → lts.Claims\n{body_claims}\n\n"
+                post = re.search(r"([\w\-]+)\.Post", t.claims or "x.Post").group(1)
+                for p in dict.fromkeys(re.findall(r"(?<![\w'\-])At-((?:Start|At|After|In|Then|Else|Joined)[\w'\-]*)", body)):
+                    pre += f"abbrev At-{p} : ℕ → Type 0\nAt-{p} t = lts.{p} (claims t) (goal.{cycle}-at t) {post}.Post{' (goal.the-clauses-' + cycle + ' t)' if fun.handed else ''}{loops}\n\n"
+            elif t.lts:
                 auses += [f"use {full}.Lts as lts", f"use {full}.Tie as tie", f"use {full}.Reads as reads"]
                 loops = "".join(f" goal.the-invariant-{n} goal.the-decreases-{n}" for n, _ in fun.loops.values())
                 for p in dict.fromkeys(re.findall(r"(?<![\w'\-])At-((?:Start|At|After|In|Then|Else|Joined)[\w'\-]*)", body)):
-                    pre += f"abbrev At-{p} : Type 0\nAt-{p} = lts.{p} tie.the-claims reads.Pre reads.Post{loops}\n\n"
+                    pre += f"abbrev At-{p} : Type 0\nAt-{p} = lts.{p} tie.the-claims reads.Pre reads.Post{' tie.handed_clauses' if fun.handed else ''}{loops}\n\n"
             auses.append(f"use {full}.Goals as goal")
             files["Answers.antt"] = "\n".join((head if not inv else []) + auses) + "\n\n" + pre + body + "\n"
         for f, text in files.items():

@@ -1,0 +1,24 @@
+-- `in_use` meets its promise: a number that is no row is not in use, and of a row the mark decides. Assumes nothing.
+use mathlib.Core.Path.{◌≡◌, sym, ◌∙◌}
+use mathlib.Core.Bool.{true}
+use Rattle.rows.specs.Table.{is_row}
+use Rattle.rows.proofs.Facts.{row_inside}
+use Rattle.rows.proofs.table.in_use.Lts as lts
+use Rattle.rows.proofs.table.in_use.Tie as tie
+use Rattle.rows.proofs.table.in_use.Reads as reads
+use Rattle.rows.proofs.table.in_use.Goals as goal
+
+abbrev At-Else1 : Type 0
+At-Else1 = lts.Else1 tie.the-claims reads.Pre reads.Post
+
+row : (c : At-Else1) → is_row c.args.t.now c.args.n ≡ true
+row c = sym c.is_row.ensures ∙ c.if-not-is_row.false
+
+pub returns-then-not-is_row : goal.returns-then-not-is_row
+returns-then-not-is_row c = rw (sym c.is_row.ensures, c.if-not-is_row.true)
+
+pub mark-requires : goal.mark-requires
+mark-requires c = (row_inside c.args.t.now c.args.n (row c.before)).1
+
+pub returns : goal.returns
+returns c = rw (row c.before.before, c.mark.ensures)
