@@ -43,8 +43,20 @@ class Fun:
         self.pre = names["pre"]
 
     def wrapped(self, place):
-        i = self.index[place]
-        return bool(self.typed[i]) or bool(i < len(self.arms) and self.arms[i])
+        return bool(self.typed[self.index[place]])
+
+    def befores(self, place, target):
+        """How many `.before` lead from a place to one above: an arm's record takes several places at once."""
+        n = 0
+        while place is not None and place != target:
+            i = self.index[place]
+            arm = self.arms[i] if i < len(self.arms) else None
+            for _ in range(arm[1] if arm else 1):
+                place = self.parent.get(place)
+                if place == target and not arm:
+                    break
+            n += 1
+        return n if place == target else None
 
     def named(self, place):
         return self.by_name[self.index[place]]
@@ -171,7 +183,9 @@ class Turn:
         if place in self.fun.asked_places and not self.fun.wrapped(place):
             return f"goal.{self.fun.named(place)}{arg}"
         self.lts = True
-        return f"At-{place}{arg}"
+        i = self.fun.index[place]
+        past = "Past-" if i < len(self.fun.arms) and self.fun.arms[i] else ""
+        return f"At-{past}{place}{arg}"
 
     def walk(self, text, roots, wrapped):
         """Rewrites each word that begins at a context. roots: variable -> (place, root variable, befores)."""
@@ -192,7 +206,11 @@ class Turn:
                 self.look(f"above the start: {m.group(0)}")
                 return m.group(0)
             if not parts:
-                return root + ".before" * (n + (1 if root in wrapped else 0)) if n else root + (".before" if root in wrapped and self.naked else "")
+                k = fun.befores(roots[root][0], place)
+                if k is None:
+                    self.look(f"no way from {roots[root][0]} to {place}: {m.group(0)}")
+                    k = n
+                return root + ".before" * (k + (1 if root in wrapped else 0))
             got = fun.step(place, parts[0], parts[1:])
             if not got:
                 self.look(f"no step {parts[0]} at {place}: {m.group(0)}")
@@ -640,12 +658,12 @@ def main():
                 body_claims = re.sub(r"^claims =", "claims t =", t.claims or "", flags=re.M).replace("below", f"goal.{cycle}-below t")
                 pre = f"abbrev claims : ℕ → lts.Claims\n{body_claims}\n\n"
                 post = re.search(r"([\w\-]+)\.Post", t.claims or "x.Post").group(1)
-                for p in dict.fromkeys(re.findall(r"(?<![\w'\-])At-((?:Start|At|After|In|Then|Else|Joined)[\w'\-]*)", body)):
+                for p in dict.fromkeys(re.findall(r"(?<![\w'\-])At-((?:Past-)?(?:Start|At|After|In|Then|Else|Joined)[\w'\-]*)", body)):
                     pre += f"abbrev At-{p} : ℕ → Type 0\nAt-{p} t = lts.{p} (claims t) (goal.{cycle}-at t) {post}.Post{' (goal.the-clauses-' + cycle + ' t)' if fun.handed else ''}{loops}\n\n"
             elif t.lts:
                 auses += [f"use {full}.Lts as lts", f"use {full}.Tie as tie", f"use {full}.Reads as reads"]
                 loops = "".join(f" goal.the-invariant-{n} goal.the-decreases-{n}" for n, _ in fun.loops.values())
-                for p in dict.fromkeys(re.findall(r"(?<![\w'\-])At-((?:Start|At|After|In|Then|Else|Joined)[\w'\-]*)", body)):
+                for p in dict.fromkeys(re.findall(r"(?<![\w'\-])At-((?:Past-)?(?:Start|At|After|In|Then|Else|Joined)[\w'\-]*)", body)):
                     pre += f"abbrev At-{p} : Type 0\nAt-{p} = lts.{p} tie.the-claims reads.Pre reads.Post{' tie.handed_clauses' if fun.handed else ''}{loops}\n\n"
             auses.append(f"use {full}.Goals as goal")
             files["Answers.antt"] = "\n".join((head if not inv else []) + auses) + "\n\n" + pre + body + "\n"

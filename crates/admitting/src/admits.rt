@@ -11,7 +11,7 @@ use rows::{MISSIONS, length_ok};
 use rules::{sound, sound_indexed};
 
 // The tests refuse the call, or none does.
-#[derive(Drop)]
+#[derive(Clone, Copy)]
 pub enum Admission {
     Admitted,
     Refused(Refusal),

@@ -1,7 +1,7 @@
 // What the calls answer. specs/Replies.antt gives 01's number and values for every case.
 
 // Why a call was refused, in the order of 01's "Refusal numbers", from 1 to 11.
-#[derive(Drop)]
+#[derive(Clone, Copy)]
 pub enum Refusal {
     // "slice length not 40k with k from 27 to 1,026"
     Length,
@@ -28,14 +28,14 @@ pub enum Refusal {
 }
 
 // "Each call answers a number and a value."
-#[derive(Drop)]
+#[derive(Clone, Copy)]
 pub enum Answer {
     Done(u32),
     Refused(Refusal),
 }
 
 // ask: "is a name on a mission's list?" And "the arcs it followed".
-#[derive(Drop)]
+#[derive(Clone, Copy)]
 pub enum Asked {
     OnList(u32),
     NotOnList(u32),
@@ -43,7 +43,7 @@ pub enum Asked {
 }
 
 // next: "which letters may follow", as a set, and their number.
-#[derive(Drop)]
+#[derive(Clone, Copy)]
 pub enum Following {
     Letters { set: u64, count: u32 },
     Refused(Refusal),

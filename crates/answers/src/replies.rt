@@ -5,7 +5,7 @@ ghost use Rattle.answers.specs.Replies.{refusal_number, done_both, refused_reply
 use super::cases::{Answer, Asked, Following, Refusal};
 
 // "Each call answers a number and a value"; ask and next also a second value, which is 0 of every other call.
-#[derive(Drop)]
+#[derive(Clone, Copy)]
 pub struct Reply {
     pub number: u32,
     pub value: u64,

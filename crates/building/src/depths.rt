@@ -11,7 +11,7 @@ use merging::{Places, next_part, places_after};
 
 // The places of the next name, and its depth in the group: one more than the letters that it shares with
 // the group's; 0 where there is no next name.
-#[derive(Drop)]
+#[derive(Clone, Copy)]
 pub struct Ahead {
     pub places: Places,
     pub deep: usize,

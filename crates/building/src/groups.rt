@@ -15,7 +15,7 @@ use letters::{LETTERS, letter_of};
 use merging::{Places, next_part};
 
 // The row of a group, and what is ahead of its letters behind its names; or no row is free.
-#[derive(Drop)]
+#[derive(Clone, Copy)]
 pub enum Built {
     Group(u16, Ahead),
     Full,

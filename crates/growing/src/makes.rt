@@ -12,7 +12,7 @@ use letters::LETTERS;
 use rows::past_zeros;
 
 // The row that was asked for, found or new, or 0 where it would have no words; or no row is free.
-#[derive(Drop)]
+#[derive(Clone, Copy)]
 pub enum Made {
     Row(u16),
     Full,

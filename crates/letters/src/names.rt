@@ -10,7 +10,7 @@ use super::bytes::{LETTERS, letter_of};
 pub const LONGEST: usize = 24;
 
 // How one name stands to another.
-#[derive(Drop)]
+#[derive(Clone, Copy)]
 pub enum Order {
     Before,
     Same,

@@ -12,7 +12,7 @@ const HEAD: usize = 4;
 const NAME: usize = 5;
 
 // "They mean add, remove, ask and count."
-#[derive(Drop)]
+#[derive(Clone, Copy)]
 pub enum Kind {
     Add,
     Remove,
@@ -21,7 +21,7 @@ pub enum Kind {
 }
 
 // A call on a mission's list, or none.
-#[derive(Drop)]
+#[derive(Clone, Copy)]
 pub enum Request {
     Call { kind: Kind, mission: u32 },
     Other,

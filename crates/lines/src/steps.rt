@@ -31,7 +31,7 @@ const SPARE: usize = 43;
 pub const OUT: usize = MOST_INPUT + SPARE;
 
 // Where the program stands.
-#[derive(Drop)]
+#[derive(Clone, Copy)]
 pub struct Place {
     // Where in the input the line begins that is to be answered.
     pub at: usize,
@@ -43,7 +43,7 @@ pub struct Place {
 }
 
 // What there is to do: nothing, to say that the input is too long, to empty the table, to answer a line.
-#[derive(Drop)]
+#[derive(Clone, Copy)]
 enum Stage {
     Over,
     Long,

@@ -15,7 +15,7 @@ use rows::target;
 use walking::{ends, letter_set};
 
 // A letter, and how many words from its target stand before the word.
-#[derive(Drop)]
+#[derive(Clone, Copy)]
 pub struct Step {
     pub letter: usize,
     pub left: u32,

@@ -5,14 +5,14 @@ ghost use Rattle.merging.specs.Merging.{turn_of, places_after};
 use letters::{Order, name_at, name_end, order_of};
 
 // A place in each of the two lists.
-#[derive(Drop)]
+#[derive(Clone, Copy)]
 pub struct Places {
     pub first: usize,
     pub second: usize,
 }
 
 // Which list the next name of the two stands in.
-#[derive(Drop)]
+#[derive(Clone, Copy)]
 pub enum Turn {
     First,
     Second,

@@ -16,7 +16,7 @@ use letters::{LETTERS, LONGEST};
 use rows::{height, higher, in_use, mark, next_arc, number39, row_count, target};
 
 // What a target demands of the height of its row, or that it is neither 0 nor a row in use.
-#[derive(Drop)]
+#[derive(Clone, Copy)]
 pub enum Demand {
     Height(usize),
     Broken,

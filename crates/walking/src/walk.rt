@@ -12,7 +12,7 @@ use letters::{LETTERS, is_spelled, letter_of, with_letter};
 use rows::{is_row, mark, start, target};
 
 // How far the walk of some bytes gets: the row where it ends, or 0 where it stops, and how many bytes are left there.
-#[derive(Drop)]
+#[derive(Clone, Copy)]
 struct Way {
     row: usize,
     left: usize,
@@ -69,7 +69,7 @@ fn walk_list(t: &[u16], m: usize, word: &[u8]) -> Way
 
 // Where the walk of a word ends, a row or 0 for none, and "the arcs it followed". Bytes are no word if they are not
 // as long as they may be, or one of them is no letter.
-#[derive(Drop)]
+#[derive(Clone, Copy)]
 pub enum Walked {
     Ended { row: usize, followed: usize },
     NoWord,

@@ -1,0 +1,39 @@
+-- `whose_turn` meets its promise: each list has a name left or none, and where both have one, their order decides. Assumes nothing.
+use mathlib.Core.Path.{◌≡◌, sym, ◌∙◌}
+use Rattle.letters.specs.declared.names.Order.TheVariants.{Before, Same, After}
+use Rattle.letters.specs.declared.names.Order.{Order}
+use Rattle.merging.specs.Merging.{turn_of}
+use Rattle.merging.proofs.Turns.{turn-neither, turn-second, turn-first, answer, turn-answer}
+use Rattle.merging.proofs.places.whose_turn.Lts as lts
+use Rattle.merging.proofs.places.whose_turn.Tie as tie
+use Rattle.merging.proofs.places.whose_turn.Reads as reads
+use Rattle.merging.proofs.places.whose_turn.Goals as goal
+
+abbrev At-After-order_of : Type 0
+At-After-order_of = lts.After-order_of tie.the-claims reads.Pre reads.Post tie.handed_clauses
+
+-- the order of the two names decides
+decided : (c : At-After-order_of) (r : Order) → c.order_of.result ≡ r
+    → let args = c.args in
+    answer r ≡ turn_of args.first.now args.second.now args.at
+decided c r e =
+    turn-answer _ _ _ r _ _ (sym e ∙ c.order_of.ensures) c.name_at.ensures.bytes c.name_at-2.ensures.bytes
+    c.if-first-i.false c.if-second-j-2.false
+
+pub returns-then-second-j : goal.returns-then-second-j
+returns-then-second-j c = sym (turn-neither _ _ _ c.if-first-i.true c.if-second-j.true)
+
+pub returns-then-first-i : goal.returns-then-first-i
+returns-then-first-i c = sym (turn-second _ _ _ c.if-first-i.true c.if-second-j.false)
+
+pub returns-then-second-j-2 : goal.returns-then-second-j-2
+returns-then-second-j-2 c = sym (turn-first _ _ _ c.if-first-i.false c.if-second-j-2.true)
+
+pub returns-in-Before : goal.returns-in-Before
+returns-in-Before c = decided c.before.before Before c.in-Before.is
+
+pub returns-in-Same : goal.returns-in-Same
+returns-in-Same c = decided c.before.before Same c.in-Same.is
+
+pub returns-in-After : goal.returns-in-After
+returns-in-After c = decided c.before.before After c.in-After.is
