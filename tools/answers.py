@@ -41,6 +41,7 @@ class Fun:
         self.old_asked = {norm(o): names["asked"].get(o) for o, n in names["needs"]}
         self.places_norm = {norm(p[0]): p[0] for p in self.places}
         self.pre = names["pre"]
+        self.params = names["params"]
 
     def wrapped(self, place):
         return bool(self.typed[self.index[place]])
@@ -101,6 +102,14 @@ class Fun:
                 fields = dict((a, b) for a, b in self.places[i][4]) if self.places[i][4] else {}
                 if rest and rest[0] in fields:
                     rest = [fields[rest[0]]] + rest[1:]
+                elif rest and rest[0] == "inv":
+                    rest = ["invariant"] + rest[1:]
+                elif rest and rest[0] in ("auto", "kept") and self.places[i][3] in self.params:
+                    k = 1
+                    while k < len(rest) and rest[k] == "1":
+                        k += 1
+                    if k < len(rest) and rest[k] == "0":
+                        rest = ["auto", self.params[self.places[i][3]][k - 1]] + rest[k + 1:]
                 elif rest and rest[0] == "branch":
                     rest = ["branch-raw"] + rest[1:]
                 labels = self.clauses[i] if i < len(self.clauses) else None
@@ -253,15 +262,14 @@ class Turn:
         # a view called in the middle of a term
         for view, target in self.views.items():
             def inline(m):
-                root = m.group(1) or m.group(3)
-                bs = m.group(2) or m.group(4) or ""
+                root, bs = m.group(1), m.group(2)
                 place, base, n = roots[root]
                 at, k = self.fun.up(place, bs.count(".before")), 0
                 while at is not None and at != target:
                     at, k = self.fun.up(at, 1), k + 1
                 return root + bs + ".before" * k
             alts = "|".join(map(re.escape, sorted(roots, key=len, reverse=True)))
-            text = re.sub(r"\(" + re.escape(view) + r" (?:(" + alts + r")((?:\.before)*))\)(?=\.)", inline, text)
+            text = re.sub(r"\(" + re.escape(view) + r" (?:(" + alts + r")((?:\.before)*))\)", inline, text)
         return self.walk(text, roots, wrapped)
 
 
@@ -493,7 +501,17 @@ def turn_file(crate, folder, fun, path, said):
 
 
 def labelled_steps(text, fun):
-    """A step under a `let`, whose promise has labels: said whole it is a tuple of them."""
+    """A step under a `let`: a promise with labels, said whole, is a tuple of them; what stays of an argument goes by its name."""
+    for m in re.finditer(r"let (" + WORD + r") = c\.([\w'\-]+) in", text):
+        for p in fun.places:
+            if p[2][1] == m.group(2) and p[3] in fun.params:
+                text = re.sub(
+                    r"(?<![\w'.\-])(" + re.escape(m.group(1)) + r")\.(?:auto|kept)((?:\.1)*)\.0(?![\w])",
+                    lambda k: f"{k.group(1)}.auto.{fun.params[p[3]][k.group(2).count('.1')]}",
+                    text,
+                )
+                break
+        text = re.sub(r"(?<![\w'.\-])(" + re.escape(m.group(1)) + r")\.inv(?![\w])", r"\1.invariant", text)
     for m in re.finditer(r"let (" + WORD + r") = c\.([\w'\-]+) in", text):
         for p, l in zip(fun.places, fun.clauses):
             if l and l.get("fields") and p[2][1] == m.group(2):
