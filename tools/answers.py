@@ -104,12 +104,13 @@ class Fun:
                     rest = [fields[rest[0]]] + rest[1:]
                 elif rest and rest[0] == "inv":
                     rest = ["invariant"] + rest[1:]
-                elif rest and rest[0] in ("auto", "kept") and self.places[i][3] in self.params:
+                elif rest and rest[0] in ("auto", "kept", "new", "last") and self.places[i][3] in self.params:
+                    word = {"kept": "auto", "last": "new"}.get(rest[0], rest[0])
                     k = 1
                     while k < len(rest) and rest[k] == "1":
                         k += 1
                     if k < len(rest) and rest[k] == "0":
-                        rest = ["auto", self.params[self.places[i][3]][k - 1]] + rest[k + 1:]
+                        rest = [word, self.params[self.places[i][3]][k - 1]] + rest[k + 1:]
                 elif rest and rest[0] == "branch":
                     rest = ["branch-raw"] + rest[1:]
                 labels = self.clauses[i] if i < len(self.clauses) else None
@@ -175,7 +176,7 @@ class Turn:
         self.fun, self.path, self.said, self.cycle = fun, path, said, cycle
         self.helpers = {}  # name -> list of (param index, place) for contexts, for a lemma over a context
         self.views = {}  # name -> place that a projection of contexts gives
-        self.lts = False
+        self.expects, self.named_places, self.here = {}, set(), None
 
     def look(self, text):
         self.said.append(f"look: {self.path}: {text}")
@@ -188,13 +189,17 @@ class Turn:
         if place is None:
             self.look(f"no place {m.group(2)}")
             return m.group(0)
-        arg = " t" if self.fun.cycle else ""
-        if place in self.fun.asked_places and not self.fun.wrapped(place):
-            return f"goal.{self.fun.named(place)}{arg}"
-        self.lts = True
-        i = self.fun.index[place]
-        past = "Past-" if i < len(self.fun.arms) and self.fun.arms[i] else ""
-        return f"At-{past}{place}{arg}"
+        self.named_places.add(self.fun.named(place))
+        return self.fun.named(place) + (" bound" if self.fun.cycle else "")
+
+    def context(self, root, at, target, m):
+        """A context that is handed to a lemma: the record of the place that the lemma is over."""
+        if self.fun.befores(at, target) is None:
+            self.look(f"no way from {at} to {target}: {m.group(0)}")
+        if at == target:
+            return root
+        self.named_places.add(self.fun.named(target))
+        return f"(goal.at.{self.here}{' bound' if self.fun.cycle else ''} {root}).{self.fun.named(target)}"
 
     def walk(self, text, roots, wrapped):
         """Rewrites each word that begins at a context. roots: variable -> (place, root variable, befores)."""
@@ -202,31 +207,38 @@ class Turn:
         names = "|".join(re.escape(r) for r in sorted(roots, key=len, reverse=True))
         if not names:
             return text
-        pat = re.compile(r"(?<![\w'.\-₀-₉])(" + names + r")(?![\w'\-₀-₉])((?:\.[\w'₀-₉\-]+)*)")
+        helpers = "|".join(re.escape(h) for h in sorted(self.expects, key=len, reverse=True)) or "(?!)"
+        pat = re.compile(r"(?<![\w'.\-₀-₉])(?:(" + helpers + r")(\s+(?:bound\s+)?))?(?<![\w'.\-₀-₉])(" + names + r")(?![\w'\-₀-₉])((?:\.[\w'₀-₉\-]+)*)")
 
         def sub(m):
-            place, root, n = roots[m.group(1)]
-            parts = m.group(2).split(".")[1:]
+            place, root, n = roots[m.group(3)]
+            parts = m.group(4).split(".")[1:]
             while parts and parts[0] == "before":
                 parts.pop(0)
                 place = fun.up(place, 1)
                 n += 1
-            if place is None:
+            expects = m.group(1) and self.expects.get(m.group(1))
+            lead = m.group(1) + m.group(2) if m.group(1) else ""
+            if place is None and not (parts or expects):
                 self.look(f"above the start: {m.group(0)}")
                 return m.group(0)
+            if not parts and expects:
+                return lead + self.context(root, roots[root][0], expects, m)
             if not parts:
+                return lead + self.context(root, roots[root][0], place, m)
+            got = place and fun.step(place, parts[0], parts[1:]) or fun.step(roots[root][0], parts[0], parts[1:])
+            if False:
                 k = fun.befores(roots[root][0], place)
                 if k is None:
                     self.look(f"no way from {roots[root][0]} to {place}: {m.group(0)}")
                     k = n
                 return root + ".before" * (k + (1 if root in wrapped else 0))
-            got = fun.step(place, parts[0], parts[1:])
             if not got:
                 self.look(f"no step {parts[0]} at {place}: {m.group(0)}")
-                return root + "." + ".".join(parts)
+                return lead + root + "." + ".".join(parts)
             if got[1] and isinstance(got[1][0], list):
-                return "(" + ", ".join(f"{root}.{got[0]}.ensures.{l}" for l in got[1][0]) + ")"
-            return root + "." + ".".join([got[0]] + got[1])
+                return lead + "(" + ", ".join(f"{root}.{got[0]}.ensures.{l}" for l in got[1][0]) + ")"
+            return lead + root + "." + ".".join([got[0]] + got[1])
 
         self.naked = True
         return pat.sub(sub, text)
@@ -417,6 +429,10 @@ def turn_file(crate, folder, fun, path, said):
             keep.append([b, len(answers) - 1])
             continue
         keep.append([b, None])
+    t.goal_names = {}
+    for b, i0, j, k, args, text, need, new in answers:
+        t.goal_names[signature(b)[2]] = new
+        t.expects[signature(b)[2]] = fun.asked_at[norm(need)][0]
     # helpers over contexts
     for it in list(keep):
         b, a = it
@@ -443,6 +459,8 @@ def turn_file(crate, folder, fun, path, said):
             keep.remove(it)
             continue
         t.helpers[name] = ctxs
+        if ctxs and ctxs[0][0] == 0:
+            t.expects[name] = ctxs[0][1]
     out = []
     for b, a in keep:
         if a is not None:
@@ -452,8 +470,9 @@ def turn_file(crate, folder, fun, path, said):
             if ctx.startswith("("):
                 t.look(f"a pattern for the context of {new}")
             roots = {ctx: (asked[0], ctx, 0)}
+            t.here = new
             text = t.body(text, roots, {ctx} if fun.wrapped(asked[0]) else set())
-            text = plain_not(labelled_steps(text, fun))
+            text = goal_words(distribute(plain_not(labelled_steps(text, fun))), t)
             labels = fun.old_asked[norm(need)]
             if labels:
                 got = as_record(text, labels)
@@ -462,7 +481,7 @@ def turn_file(crate, folder, fun, path, said):
                 else:
                     text = got
             more = [x for x in args[1:] if x not in ("κs",)]
-            said_args = " ".join((["t"] if fun.cycle else []) + [ctx] + more)
+            said_args = " ".join((["bound"] if fun.cycle else []) + [ctx] + more)
             if fun.cycle:
                 text = helper_calls(text, t)
             out.append("\n".join(b[:i0] + [f"pub {new} : goal.{new}"] + b[j:k] + [f"{new} {said_args} ={text}"]))
@@ -482,14 +501,15 @@ def turn_file(crate, folder, fun, path, said):
                 if n < len(ex):
                     roots[ex[n]] = (place, ex[n], 0)
             named = dict(roots)
+            t.here = fun.named(t.helpers[name][0][1]) if t.helpers[name] else None
             for m in re.finditer(r"\((" + WORD + r") : " + CTX.pattern + r"\)", typ):
                 named[m.group(1)] = (t.place_of(m.group(3)), m.group(1), 0)
             typ2 = t.body(typ, named, set())
             typ2 = CTX.sub(t.context_type, typ2)
             if fun.cycle:
-                typ2 = "(t : ℕ) → " + helper_calls(typ2, t)
-                args = ["t"] + args
-            text = plain_not(labelled_steps(t.body("\n".join([first] + b[k + 1:]), roots, set()), fun))
+                typ2 = "(bound : ℕ) → " + helper_calls(typ2, t)
+                args = ["bound"] + args
+            text = goal_words(distribute(plain_not(labelled_steps(t.body("\n".join([first] + b[k + 1:]), roots, set()), fun))), t)
             if fun.cycle:
                 text = helper_calls(text, t)
             out.append("\n".join(b[:i0] + [f"{mods}{name} : {typ2}"] + b[j:k] + [f"{name} {' '.join(args)} ={text}"]))
@@ -506,8 +526,8 @@ def labelled_steps(text, fun):
         for p in fun.places:
             if p[2][1] == m.group(2) and p[3] in fun.params:
                 text = re.sub(
-                    r"(?<![\w'.\-])(" + re.escape(m.group(1)) + r")\.(?:auto|kept)((?:\.1)*)\.0(?![\w])",
-                    lambda k: f"{k.group(1)}.auto.{fun.params[p[3]][k.group(2).count('.1')]}",
+                    r"(?<![\w'.\-])(" + re.escape(m.group(1)) + r")\.(auto|kept|new|last)((?:\.1)*)\.0(?![\w])",
+                    lambda k: f"{k.group(1)}.{dict(kept='auto', last='new').get(k.group(2), k.group(2))}.{fun.params[p[3]][k.group(3).count('.1')]}",
                     text,
                 )
                 break
@@ -527,9 +547,74 @@ def labelled_steps(text, fun):
     return text
 
 
+def close_of(text, i):
+    """Where the bracket that opens at i closes."""
+    depth = 0
+    for k in range(i, len(text)):
+        depth += text[k] in "([{"
+        depth -= text[k] in ")]}"
+        if depth == 0:
+            return k
+    return None
+
+
+def items_of(text):
+    """The items of a tuple, without its brackets."""
+    depth, cur, out = 0, "", []
+    for ch in text:
+        depth += ch in "([{"
+        depth -= ch in ")]}"
+        if ch == "," and depth == 0:
+            out.append(cur.strip())
+            cur = ""
+        else:
+            cur += ch
+    return out + [cur.strip()]
+
+
+def distribute(text):
+    """`rw e at (p, q)` is said of each part, and `let (a, b) = (p, q) in` of each name."""
+    at = re.compile(r"rw (" + ATOM + r"|\((?:[^()]|\([^()]*\))*\)) at (?=\(c\.|\([\w\-]+\.ensures\.)")
+    m = at.search(text)
+    while m:
+        end = close_of(text, m.end())
+        parts = items_of(text[m.end() + 1 : end])
+        text = text[: m.start()] + "(" + ", ".join(f"(rw {m.group(1)} at {p})" for p in parts) + ")" + text[end + 1 :]
+        m = at.search(text)
+    pair = re.compile(r"let (?=\()")
+    pos = 0
+    while True:
+        m = pair.search(text, pos)
+        if not m:
+            return text
+        pos = m.end()
+        e1 = close_of(text, m.end())
+        k = re.match(r"\s*=\s*(?=\()", text[e1 + 1 :])
+        if not k:
+            continue
+        s2 = e1 + 1 + k.end()
+        e2 = close_of(text, s2)
+        if not re.match(r"\s*in(?=\s)", text[e2 + 1 :]):
+            continue
+        names, parts = items_of(text[m.end() + 1 : e1]), items_of(text[s2 + 1 : e2])
+        if len(names) != len(parts) or len(parts) < 2:
+            continue
+        lets = " in ".join(f"let {n} = {p}" for n, p in zip(names, parts) if n != "_")
+        text = text[: m.start()] + lets + text[e2 + 1 :]
+
+
+def goal_words(text, t):
+    """An answer that is cited by another one goes by its goal's name now."""
+    for old, new in t.goal_names.items():
+        if old != new and not re.fullmatch(r"returns(-\d+)?", old):
+            text = re.sub(r"(?<![\w'.\-])" + re.escape(old) + r"(?![\w'\-])(\s+(?:\([^()]*\)\S*|\S+?))\s+κs", lambda m: new + m.group(1), text)
+            text = re.sub(r"(?<![\w'.\-])" + re.escape(old) + r"(?![\w'\-])", new, text)
+    return text
+
+
 def helper_calls(text, t):
     for h in t.helpers:
-        text = re.sub(r"(?<![\w'.\-])" + re.escape(h) + r"(?![\w'\-])", h + " t", text)
+        text = re.sub(r"(?<![\w'.\-])" + re.escape(h) + r"(?![\w'\-])", h + " bound", text)
     return text
 
 
@@ -556,7 +641,7 @@ def plain_cycle(lines, fun, t):
         text = "\n".join(b)
         text = re.sub(r"lts\.Need-([\w'\-+]+) claims at [\w\-]+\.Post", r"tie.Need-\1", text)
         text = re.sub(r"lts\.(invariant|decreases)-([\w'\-]+)(?: claims| at| [\w\-]+\.Post)*", r"tie.\1-\2", text)
-        text = re.sub(r"(?<![\w'.\-])bound(?![\w'\-])", "t", text)
+        text = re.sub(r"(?<![\w'.\-])bound(?![\w'\-])", "bound", text)
         bs += text.split("\n") + [""]
     return bs, claims
 
@@ -650,8 +735,13 @@ def main():
                     for n, l in enumerate(ls):
                         m = re.match(r"(\s*)((?:abbrev |unfoldable )*)(record |data )?(" + WORD + r")((?: \([^)]*\))*) :(?: |$)", l)
                         if m and not l.strip().startswith(("--", "pub", "use")) and (n == 0 or ls[n - 1].strip().startswith("--") or m.group(3) or ls[n - 1].strip() == "" or "where" in ls[0]):
+                            in_record = any(re.match(r"\s*(?:pub )?record ", x) and len(x) - len(x.lstrip()) < len(m.group(1)) for x in ls[:n])
                             if m.group(3):
                                 l = f"{m.group(1)}pub {m.group(3)}{l.lstrip()[len(m.group(3)):]}"
+                            elif in_record:
+                                l = f"{m.group(1)}pub {l.lstrip()}"
+                                res.append(l)
+                                continue
                             else:
                                 l = f"{m.group(1)}{m.group(2)}pub {l.lstrip()[len(m.group(2)):]}"
                             pubs.append(m.group(4))
@@ -669,22 +759,10 @@ def main():
                 mine = [p for p in pubs if re.search(r"(?<![\w'\-])" + re.escape(p) + r"(?![\w'\-])", body)]
                 if mine:
                     auses.append(f"use {full}.Invariants.{{{', '.join(dict.fromkeys(mine))}}}")
-            pre = ""
-            if t.lts and cycle:
-                auses += [u for u in uses if re.search(r"\.(Reads|Kinds) as ", u) or ".Lts-" in u and u not in auses]
-                loops = "".join(f" goal.the-invariant-{n} goal.the-decreases-{n}" for n, _ in fun.loops.values())
-                body_claims = re.sub(r"^claims =", "claims t =", t.claims or "", flags=re.M).replace("below", f"goal.{cycle}-below t")
-                pre = f"abbrev claims : ℕ → lts.Claims\n{body_claims}\n\n"
-                post = re.search(r"([\w\-]+)\.Post", t.claims or "x.Post").group(1)
-                for p in dict.fromkeys(re.findall(r"(?<![\w'\-])At-((?:Past-)?(?:Start|At|After|In|Then|Else|Joined)[\w'\-]*)", body)):
-                    pre += f"abbrev At-{p} : ℕ → Type 0\nAt-{p} t = lts.{p} (claims t) (goal.{cycle}-at t) {post}.Post{' (goal.the-clauses-' + cycle + ' t)' if fun.handed else ''}{loops}\n\n"
-            elif t.lts:
-                auses += [f"use {full}.Lts as lts", f"use {full}.Tie as tie", f"use {full}.Reads as reads"]
-                loops = "".join(f" goal.the-invariant-{n} goal.the-decreases-{n}" for n, _ in fun.loops.values())
-                for p in dict.fromkeys(re.findall(r"(?<![\w'\-])At-((?:Past-)?(?:Start|At|After|In|Then|Else|Joined)[\w'\-]*)", body)):
-                    pre += f"abbrev At-{p} : Type 0\nAt-{p} = lts.{p} tie.the-claims reads.Pre reads.Post{' tie.handed_clauses' if fun.handed else ''}{loops}\n\n"
             auses.append(f"use {full}.Goals as goal")
-            files["Answers.antt"] = "\n".join((head if not inv else []) + auses) + "\n\n" + pre + body + "\n"
+            if t.named_places:
+                auses.append(f"use {full}.Goals.{{{', '.join(sorted(t.named_places))}}}")
+            files["Answers.antt"] = "\n".join((head if not inv else []) + auses) + "\n\n" + body + "\n"
         for f, text in files.items():
             with open(os.path.join(folder, f), "w", encoding="utf-8") as o:
                 o.write(text)

@@ -1,12 +1,9 @@
--- `enter_arcs` meets its promise. The loop's invariant: the arcs for the letters below `x` are counted. A number of arcs is at most that of all arcs of
--- the table, so one more fits, and it stands behind the chains and the keys, so they stay. The measure is the letters that are left. Assumes nothing.
-use Prim.Native.Nat.{ℕ, suc, ◌+◌, ◌-◌, ◌≤◌, ◌<◌}
+use Prim.Native.Nat.{ℕ, suc, ◌+◌, ◌-◌, ◌<◌}
 use mathlib.Core.Path.{◌≡◌, sym, ap, ◌∙◌}
 use mathlib.Core.List.{List}
 use native.Mathlib.Numerals.{add-one}
 use native.Mathlib.Decide.{ℕ_discrete}
 use native.Mathlib.Omega.{arith}
-use borrow.Author.Rules.{rules}
 use borrow.Author.Tests.{eq-eqb, ne_eqb}
 use lib.Dec.{eqb}
 use lib.ListN.{length, get_or, set, length-set}
@@ -20,8 +17,8 @@ use Rattle.chains.proofs.Chains.{chained_same}
 use Rattle.index.specs.Arcs.{arcs_from}
 use Rattle.index.specs.Index.{key_place, arcs_place, index_length, Entering}
 use Rattle.index.proofs.Arcs.{arcs-more, arcs-zero, arcs-fewer, below-most}
-use Rattle.index.proofs.enters.enter_arcs.Statement.{statement}
-use Rattle.index.proofs.enters.enter_arcs.Tie as tie
+use Rattle.index.proofs.enters.enter_arcs.Goals as goal
+use Rattle.index.proofs.enters.enter_arcs.Goals.{After-target-n}
 
 module _ {t : Table} {r : ℕ} {index : List ℕ} where
   -- a letter without a target changes nothing
@@ -82,92 +79,54 @@ module _ {t : Table} {r : ℕ} {index : List ℕ} where
               ];
         }
 
-abbrev invariant-loop : tie.invariant-loop
-invariant-loop t index₀ r x₀ index x = (x ≤ letters) × (x < letters → 0 < target t r x) × Entering t r x index
+pub next_arc-x-requires : goal.next_arc-x-requires
+next_arc-x-requires c = (c.requires.used.inside, omega arith)
 
-abbrev decreases-loop : tie.decreases-loop
-decreases-loop t index₀ r x₀ index x = letters - x
+pub loop-x-init : goal.loop-x-init
+loop-x-init c =
+    let next = c.next_arc-x.ensures in
+    (next.to, next.stops, entering-past next c.requires)
 
-next-arc-requires : tie.Need-next-arc-requires invariant-loop decreases-loop
-next-arc-requires c κs = (c.before.before.requires.used.inside, omega arith)
-
-loop-holds : tie.Need-loop-init invariant-loop decreases-loop
-loop-holds c =
-    let next = c.next-arc.ensures in
-    (next.to, next.stops, entering-past next c.before.before.before.requires)
-
-target-requires : tie.Need-target-requires invariant-loop decreases-loop
-target-requires c κs = (c.before.loop.invariant.2.used.inside, omega arith)
-
-cast-n : tie.Need-overflow-cast-n invariant-loop decreases-loop
-cast-n c = search rules
+pub target-n-requires : goal.target-n-requires
+target-n-requires c = (c.loop-x.invariant.2.used.inside, omega arith)
 
 -- all that the count asks
-counts : (c : tie.After-target invariant-loop decreases-loop) →
-    let index = c.before.before.loop.index in
-    let place = arcs_place c.target.result in
+counts : (c : After-target-n) →
+    let index = c.loop-x.index in
+    let place = arcs_place c.target-n.result in
     (place < index_length) × (place < length index) × (get_or index place 0 + 1 < 65536)
 counts c =
-    let (low, stops, e) = c.before.before.loop.invariant in
+    let (low, stops, e) = c.loop-x.invariant in
     let there = stops (omega arith) in
     let inside = place_inside e (omega arith) there in
-    rw c.target.ensures (inside, omega (arith, e.long), count_fits e (omega arith) there)
+    rw c.target-n.ensures (inside, omega (arith, e.long), count_fits e (omega arith) there)
 
-add-index : tie.Need-overflow-add-index invariant-loop decreases-loop
-add-index c = omega (arith, counts c)
+pub overflow_add-index : goal.overflow_add-index
+overflow_add-index c = omega (arith, counts c)
 
-mul-index : tie.Need-overflow-mul-index invariant-loop decreases-loop
-mul-index c = omega (arith, counts c)
+pub offset_bounds-index-n : goal.offset_bounds-index-n
+offset_bounds-index-n c = omega (arith, counts c)
 
-slice-read-index : tie.Need-slice-read-index invariant-loop decreases-loop
-slice-read-index c = (counts c.before).1
+pub bounds-index-n : goal.bounds-index-n
+bounds-index-n c = (counts (goal.at.bounds-index-n c).After-target-n).1
 
-add-index-2 : tie.Need-overflow-add-index-2 invariant-loop decreases-loop
-add-index-2 c = omega (arith, counts c.before)
+pub overflow_add-index-in-loop-x : goal.overflow_add-index-in-loop-x
+overflow_add-index-in-loop-x c = omega (arith, counts (goal.at.overflow_add-index-in-loop-x c).After-target-n)
 
-slice-write-index : tie.Need-slice-write-index invariant-loop decreases-loop
-slice-write-index c = (counts c.before).1
+pub bounds-index-n-in-loop-x : goal.bounds-index-n-in-loop-x
+bounds-index-n-in-loop-x c = (counts (goal.at.bounds-index-n-in-loop-x c).After-target-n).1
 
-add-next-arc : tie.Need-overflow-add-next-arc invariant-loop decreases-loop
-add-next-arc c = search rules
+pub next_arc-x-requires-in-loop-x : goal.next_arc-x-requires-in-loop-x
+next_arc-x-requires-in-loop-x c = (c.loop-x.invariant.2.used.inside, omega arith)
 
-next-arc-requires-2 : tie.Need-next-arc-requires-2 invariant-loop decreases-loop
-next-arc-requires-2 c κs = (c.before.before.before.loop.invariant.2.used.inside, omega arith)
+pub loop-x-preserved : goal.loop-x-preserved
+loop-x-preserved c =
+    let next = c.next_arc-x-in-loop-x.ensures in
+    let (low, stops, e) = c.loop-x.invariant in
+    (next.to, next.stops, entering-past next (rw c.target-n.ensures (entering-more e (omega arith) (stops (omega arith)))))
 
-loop-less : tie.Need-loop-smaller invariant-loop decreases-loop
-loop-less c = search rules
+pub shape_of-index : goal.shape_of-index
+shape_of-index c = omega (arith, c.loop-x.invariant.2.long, c.requires.long)
 
-loop-again : tie.Need-loop-preserved invariant-loop decreases-loop
-loop-again c =
-    let next = c.next-arc2.ensures in
-    let at = c.before.before in
-    let (low, stops, e) = at.before.before.loop.invariant in
-    (next.to, next.stops, entering-past next (rw at.target.ensures (entering-more e (omega arith) (stops (omega arith)))))
-
-same_length : tie.Need-same-length invariant-loop decreases-loop
-same_length c = omega (arith, c.before.loop.invariant.2.long, c.before.before.before.before.before.requires.long)
-
-returns : tie.Need-returns invariant-loop decreases-loop
-returns c = let all : c.before.loop.x ≡ letters = omega arith in rw all at c.before.loop.invariant.2
-
-pub enter-arcs-spec : {M : Type 1} → statement M
-enter-arcs-spec =
-    tie.close
-    (tie.spec
-    invariant-loop
-    decreases-loop
-    next-arc-requires
-    loop-holds
-    target-requires
-    cast-n
-    add-index
-    mul-index
-    slice-read-index
-    add-index-2
-    slice-write-index
-    add-next-arc
-    next-arc-requires-2
-    loop-less
-    loop-again
-    same_length
-    returns)
+pub returns : goal.returns
+returns c = let all : c.loop-x.x ≡ letters = omega arith in rw all at c.loop-x.invariant.2
