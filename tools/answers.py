@@ -15,7 +15,7 @@ WORD = r"[^\s(){}\[\].,;:=λ]+"
 
 
 def norm(s):
-    return s.replace("_", "-").replace("+", "")
+    return s.replace("_", "-").replace("+", "").lower()
 
 
 class Fun:
@@ -42,6 +42,7 @@ class Fun:
         self.places_norm = {norm(p[0]): p[0] for p in self.places}
         self.pre = names["pre"]
         self.params = names["params"]
+        self.args = {o.split(".")[-1]: n.split(".")[-1] for o, n in names["args"] if o.startswith(".args .")}
 
     def wrapped(self, place):
         return bool(self.typed[self.index[place]])
@@ -76,8 +77,12 @@ class Fun:
 
     def step(self, place, step, rest):
         """The new words of `.step.rest` seen at a place: (new step, new rest), or None."""
+        if step == "args" and rest:
+            return step, [self.args.get(rest[0], rest[0])] + rest[1:]
         if step in ("args", "lifetimes", "auto", "ranges", "utf8"):
             return step, rest
+        if step == "well-formed":
+            return "well_formed", rest
         if step in ("pre", "requires"):
             if self.cycle and rest and rest[0] == "0":
                 return "decreases", rest[1:]
@@ -272,16 +277,30 @@ class Turn:
                 changed = True
                 break
         # a view called in the middle of a term
+        inlines, again = [], [False]
         for view, target in self.views.items():
-            def inline(m):
+            def inline(m, view=view, target=target):
                 root, bs = m.group(1), m.group(2)
                 place, base, n = roots[root]
                 at, k = self.fun.up(place, bs.count(".before")), 0
                 while at is not None and at != target:
                     at, k = self.fun.up(at, 1), k + 1
+                if at is None:
+                    self.look(f"{view} from {root}{bs}")
+                    return m.group(0)
+                again[0] = True
                 return root + bs + ".before" * k
-            alts = "|".join(map(re.escape, sorted(roots, key=len, reverse=True)))
-            text = re.sub(r"\(" + re.escape(view) + r" (?:(" + alts + r")((?:\.before)*))\)", inline, text)
+            inlines.append((view, inline))
+        alts = "|".join(map(re.escape, sorted(roots, key=len, reverse=True)))
+        again[0] = True
+        while again[0]:
+            again[0] = False
+            for view, inline in inlines:
+                head = r"(?<![\w'.\-])" + re.escape(view) + r" "
+                ctx = r"(" + alts + r")((?:\.before)*)(?![\w.'\-])"
+                text = re.sub(r"\(" + head + ctx + r"\)", inline, text)
+                text = re.sub(r"\(" + head + r"(" + alts + r")((?:\.before)*)\)", inline, text)
+                text = re.sub(head + ctx, inline, text)
         return self.walk(text, roots, wrapped)
 
 
@@ -308,9 +327,9 @@ ATOM = r"(?:_|[\w'.\-]+|\([^()]*\))"
 
 
 def plain_not(text):
-    """Of `if !x` the fact is now said of x itself."""
-    text = re.sub(r"\(?not-true " + ATOM + r" (c[\w'.\-]*)\.true-raw\)?", lambda m: balance(m.group(0), m.group(1) + ".true"), text)
-    return re.sub(r"\(?not-false " + ATOM + r" (c[\w'.\-]*)\.false-raw\)?", lambda m: balance(m.group(0), m.group(1) + ".false"), text)
+    """Of `if !x` and of a comparison the fact is now said of the things themselves."""
+    raw = re.compile(r"\(?(?:not-true|not-false|eqb-true|eqb-false|ltb-true|ltb-false|leb-true|leb-false) (?:" + ATOM + r" ){1,2}(c[\w'.\-]*)\.(true|false)-raw\)?")
+    return raw.sub(lambda m: balance(m.group(0), m.group(1) + "." + m.group(2)), text)
 
 
 def balance(was, now):
@@ -504,7 +523,7 @@ def turn_file(crate, folder, fun, path, said):
             t.here = fun.named(t.helpers[name][0][1]) if t.helpers[name] else None
             for m in re.finditer(r"\((" + WORD + r") : " + CTX.pattern + r"\)", typ):
                 named[m.group(1)] = (t.place_of(m.group(3)), m.group(1), 0)
-            typ2 = t.body(typ, named, set())
+            typ2 = labelled_steps(t.body(typ, named, set()), fun)
             typ2 = CTX.sub(t.context_type, typ2)
             if fun.cycle:
                 typ2 = "(bound : ℕ) → " + helper_calls(typ2, t)
@@ -522,6 +541,8 @@ def turn_file(crate, folder, fun, path, said):
 
 def labelled_steps(text, fun):
     """A step under a `let`: a promise with labels, said whole, is a tuple of them; what stays of an argument goes by its name."""
+    for old, new in fun.args.items():
+        text = re.sub(r"(?<=args)\." + re.escape(old) + r"(?![\w])", "." + new, text)
     for m in re.finditer(r"let (" + WORD + r") = c\.([\w'\-]+) in", text):
         for p in fun.places:
             if p[2][1] == m.group(2) and p[3] in fun.params:
@@ -614,7 +635,7 @@ def goal_words(text, t):
 
 def helper_calls(text, t):
     for h in t.helpers:
-        text = re.sub(r"(?<![\w'.\-])" + re.escape(h) + r"(?![\w'\-])", h + " bound", text)
+        text = re.sub(r"(?<![\w'.\-])" + re.escape(h) + r"(?![\w'\-])(?!\s*[=:])", h + " bound", text)
     return text
 
 
@@ -734,7 +755,8 @@ def main():
                     res = []
                     for n, l in enumerate(ls):
                         m = re.match(r"(\s*)((?:abbrev |unfoldable )*)(record |data )?(" + WORD + r")((?: \([^)]*\))*) :(?: |$)", l)
-                        if m and not l.strip().startswith(("--", "pub", "use")) and (n == 0 or ls[n - 1].strip().startswith("--") or m.group(3) or ls[n - 1].strip() == "" or "where" in ls[0]):
+                        in_record = any(re.match(r"\s*(?:pub )?record ", x) for x in ls[:n])
+                        if m and not l.strip().startswith(("--", "pub", "use")) and (in_record or n == 0 or ls[n - 1].strip().startswith("--") or m.group(3) or ls[n - 1].strip() == "" or "where" in ls[0]):
                             in_record = any(re.match(r"\s*(?:pub )?record ", x) and len(x) - len(x.lstrip()) < len(m.group(1)) for x in ls[:n])
                             if m.group(3):
                                 l = f"{m.group(1)}pub {m.group(3)}{l.lstrip()[len(m.group(3)):]}"

@@ -1,0 +1,111 @@
+-- `make` meets its promise: each way out is one of the laws of making a row, and the tests on the way are what that law asks. The index says which
+-- row agrees, and which is free; the row that is written comes into its bucket. Assumes nothing.
+use Prim.Native.Nat.{ℕ, ◌<◌}
+use mathlib.Core.Path.{◌≡◌, sym, ◌∙◌}
+use mathlib.Core.Logic.{⊎_elim}
+use native.Mathlib.Omega.{arith}
+use borrow.Author.Rules.{rules}
+use borrow.Author.Tests.{eqb-false}
+use mathlib.Core.List.{List}
+use lib.ListN.{get_or}
+use Rattle.letters.specs.Letters.{letters}
+use Rattle.rows.specs.Table.{Table}
+use Rattle.index.specs.Index.{Finds}
+use Rattle.growing.specs.Rows.{height_over, NewRow}
+use Rattle.growing.proofs.Entering.{Free, first-free, written-entering}
+use Rattle.growing.proofs.Making.{height-fits, targets-inside, none_made, found-made, full-made, new-made}
+use Rattle.growing.proofs.makes.make.Goals as goal
+use Rattle.growing.proofs.makes.make.Goals.{else-mark-eq1-via-then-mark-eq1+else-past_zeros-eq-LETTERS, else-mark-eq1-via-else-mark-eq1, After-write_row, Else-free-eq0, Joined-else-mark-eq1, Start}
+
+-- what was written, and what was found, by other names of the numbers
+written_as : {t u : Table} {r s k h g : ℕ} {ts : List ℕ} → r ≡ s → h ≡ g → NewRow t u r k h ts → NewRow t u s k g ts
+written_as e d w = rw e at (rw d at w)
+
+found_none : {t : Table} {n k f : ℕ} {ts : List ℕ} → f ≡ 0 → Finds t n k ts f → Finds t n k ts 0
+found_none e d = rw e at d
+
+pub returns-then-past_zeros-eq-LETTERS : goal.returns-then-past_zeros-eq-LETTERS
+returns-then-past_zeros-eq-LETTERS c =
+    let (tidy, indexed, fitting) = c.requires in
+    let skipped = c.past_zeros.ensures in
+    let over = c.if-past_zeros-eq-LETTERS.true in
+    (record { makes = none_made _ _ _ tidy fitting (omega arith) (λ x h. skipped.before.zeros x (omega arith) (omega (arith, over))); indexed = indexed })
+
+-- behind the first test: where no name may end, there is a target
+some : (c : Joined-else-mark-eq1) → c.args.mark ≡ 1 → (x : ℕ) × (x < letters) × (0 < get_or c.args.targets x 0)
+some c one =
+    elim c.else-mark-eq1.branch [
+      | else-mark-eq1-via-then-mark-eq1+else-past_zeros-eq-LETTERS w ↦
+          let skipped = w.past_zeros.ensures in
+          let early : w.past_zeros.result < letters = omega (arith, skipped.to, w.if-past_zeros-eq-LETTERS.false) in
+          (w.past_zeros.result, early, skipped.stops early)
+      | else-mark-eq1-via-else-mark-eq1 w ↦ absurd (omega arith)
+    ]
+
+pub find-same-requires : goal.find-same-requires
+find-same-requires c =
+    let (tidy, indexed, fitting) = c.requires in
+    (indexed, record { some = fitting.some; long = search rules; keyed = c.key_of.ensures })
+
+pub overflow_cast-result : goal.overflow_cast-result
+overflow_cast-result c =
+    let (tidy, indexed, fitting) = c.requires in
+    omega (arith, c.find-same.ensures.low, tidy.most)
+
+pub returns-then-same-ne0 : goal.returns-then-same-ne0
+returns-then-same-ne0 c =
+    let (tidy, indexed, fitting) = c.requires in
+    (record { makes = found-made _ _ _ tidy fitting c.find-same.ensures (omega arith); indexed = indexed })
+
+pub returns-then-free-eq0 : goal.returns-then-free-eq0
+returns-then-free-eq0 c =
+    let (tidy, indexed, fitting) = c.requires in
+    (record { makes = full-made _ _ _ tidy fitting indexed (sym c.free_row-free.ensures ∙ omega arith); indexed = indexed })
+
+-- where a row is free, it is inside the table
+free : (c : Else-free-eq0) → Free c.args.t.now (get_or c.args.index.now 0 0)
+free c =
+    let (tidy, indexed, fitting) = c.requires in
+    first-free _ indexed (omega (arith, c.free_row-free.ensures))
+
+pub height_over-height-requires : goal.height_over-height-requires
+height_over-height-requires c =
+    let (tidy, indexed, fitting) = c.requires in
+    (search rules, targets-inside _ _ _ tidy fitting)
+
+pub overflow_cast-height : goal.overflow_cast-height
+overflow_cast-height c =
+    let (tidy, indexed, fitting) = c.requires in
+    omega (arith, c.height_over-height.ensures, height-fits _ _ _ tidy fitting)
+
+pub write_row-requires : goal.write_row-requires
+write_row-requires c =
+    let start = (goal.at.write_row-requires c).Start in
+    (omega (arith, (free (goal.at.write_row-requires c).Else-free-eq0).inside, c.free_row-free.ensures), search rules)
+
+-- the last free row is written
+written : (c : After-write_row) →
+    let args = c.args in
+    NewRow args.t.now c.write_row.new.t (get_or args.index.now 0 0) args.mark (height_over args.t.now args.targets) args.targets
+written c =
+    written_as c.free_row-free.ensures c.height_over-height.ensures c.write_row.ensures
+
+pub enter-requires : goal.enter-requires
+enter-requires c =
+    let (tidy, indexed, fitting) = c.requires in
+    rw c.free_row-free.ensures
+    (written-entering _ indexed (free (goal.at.enter-requires c).Else-free-eq0).positive fitting.some (written (goal.at.enter-requires c).After-write_row) (targets-inside _ _ _ tidy fitting))
+
+pub overflow_cast-result-2 : goal.overflow_cast-result-2
+overflow_cast-result-2 c =
+    let (tidy, indexed, fitting) = c.requires in
+    omega (arith, (free (goal.at.overflow_cast-result-2 c).Else-free-eq0).inside, c.free_row-free.ensures, tidy.most)
+
+pub returns : goal.returns
+returns c =
+    let (tidy, indexed, fitting) = c.requires in
+    let none : c.find-same.result ≡ 0 = omega arith in (record {
+      makes = rw c.free_row-free.ensures
+          (new-made _ _ _ tidy fitting _ (some (goal.at.returns c).Joined-else-mark-eq1) (found_none none c.find-same.ensures) _ (free (goal.at.returns c).Else-free-eq0) (written (goal.at.returns c).After-write_row));
+      indexed = c.enter.ensures;
+    })
