@@ -60,6 +60,15 @@ class Fun:
             n += 1
         return n if place == target else None
 
+    def arm_end(self, place):
+        """The place where all of an arm's facts are known."""
+        while place is not None:
+            arm = self.arms[self.index[place]] if self.index[place] < len(self.arms) else None
+            more = arm and [p[0] for i, p in enumerate(self.places) if p[1] == place and i < len(self.arms) and self.arms[i] and self.arms[i][0] == arm[0]]
+            if not more:
+                return place
+            place = more[0]
+
     def named(self, place):
         return self.by_name[self.index[place]]
 
@@ -189,7 +198,8 @@ class Turn:
         self.said.append(f"look: {self.path}: {text}")
 
     def place_of(self, old):
-        return self.fun.places_norm.get(norm(old))
+        place = self.fun.places_norm.get(norm(old))
+        return place and self.fun.arm_end(place)
 
     def context_type(self, m):
         place = self.place_of(m.group(2))
