@@ -9,8 +9,6 @@ use mathlib.Core.Bool.{Bool, true, false, not, cond}
 use mathlib.Core.Logic.{◌⊎◌, inl, inr}
 use mathlib.Core.List.{List, [], ◌∷◌}
 use borrow.Author.Tests.{le-ltb}
-use denote.Enum.Declared.{tag_of}
-use types.Run.{OneOf}
 use lib.Dec.{eqb}
 use lib.ListN.{length, replicate, length-append, length-map, length-drop}
 use Rattle.letters.specs.Each.{Each}
@@ -40,7 +38,6 @@ use Rattle.lines.specs.declared.requests.Kind.{Kind}
 use Rattle.lines.specs.declared.requests.Kind.TheVariants.{Add, Remove, Ask, Count}
 use Rattle.lines.specs.declared.requests.Request.{Request}
 use Rattle.lines.specs.declared.requests.Request.TheVariants as request
-use Rattle.lines.specs.contracts.requests.Kind as kinds
 use Rattle.lines.specs.Requests.{name_of, request_of, call_of}
 use Rattle.lines.specs.Promises.{said, said_to, names_behind, written_behind}
 use Rattle.lines.specs.Steps.{most_input, most_output}

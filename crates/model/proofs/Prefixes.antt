@@ -5,7 +5,7 @@ use Prim.Native.Nat.{ℕ, zero, suc, max, ◌≤◌, ◌<◌}
 use native.Mathlib.Omega.{arith}
 use mathlib.Core.Path.{◌≡◌, refl, ap}
 use mathlib.Core.Logic.{inl, inr}
-use mathlib.Core.Bool.{true, false, cond, false≢true, or-true}
+use mathlib.Core.Bool.{cond, false≢true, or-true}
 use mathlib.Core.List.{[], ◌∷◌}
 use lib.Dec.{eqb, ltb}
 use lib.ListN.{length, take}

@@ -46,10 +46,10 @@ pub once-below : (n : ℕ) → Once (below n)
 once-below zero = tt
 once-below (suc n) = (unlisted-below n n (omega arith), once-below n)
 
-get_d_map : (f : Words → ℕ) (ls : List Words) (m : ℕ) → m < length ls → get_or (map f ls) m 0 ≡ f (get_or ls m [])
-get_d_map f [] m h = absurd (omega arith)
-get_d_map f (l ∷ ls) zero h = refl
-get_d_map f (l ∷ ls) (suc m) h = get_d_map f ls m (omega arith)
+get_or_map : (f : Words → ℕ) (ls : List Words) (m : ℕ) → m < length ls → get_or (map f ls) m 0 ≡ f (get_or ls m [])
+get_or_map f [] m h = absurd (omega arith)
+get_or_map f (l ∷ ls) zero h = refl
+get_or_map f (l ∷ ls) (suc m) h = get_or_map f ls m (omega arith)
 
 module _ (ls : List Words) where
   -- the place of a set among the states, and the set at a place
@@ -87,5 +87,5 @@ module _ (ls : List Words) where
   machine-languages =
       record {
         one_each = length-map ls place;
-        language = λ m h w g. rw (get_d_map place ls m h) (place-agrees w g (get_or ls m []) (list-in-states ls m h));
+        language = λ m h w g. rw (get_or_map place ls m h) (place-agrees w g (get_or ls m []) (list-in-states ls m h));
       }

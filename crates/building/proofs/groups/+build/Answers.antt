@@ -1,7 +1,6 @@
-use Prim.Native.Nat.{ℕ, ◌+◌, ◌-◌, ◌<◌}
+use Prim.Native.Nat.{ℕ, ◌+◌, ◌<◌}
 use native.Mathlib.Omega.{arith}
 use borrow.Author.Rules.{rules}
-use borrow.Fn.PlainCycle.{is, and}
 use lib.ListN.{length}
 use Rattle.letters.specs.Letters.{letters}
 use Rattle.growing.specs.declared.makes.Made.TheVariants.{Row, Full}

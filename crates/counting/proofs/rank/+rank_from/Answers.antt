@@ -2,7 +2,6 @@ use Prim.Native.Nat.{ℕ, ◌+◌, ◌≤◌, ◌<◌}
 use native.Mathlib.Omega.{arith}
 use mathlib.Core.Path.{◌≡◌, sym}
 use mathlib.Core.List.{List, [], ◌∷◌}
-use borrow.Fn.PlainCycle.{is, and}
 use lib.ListN.{length}
 use lib.Seq.{take_all}
 use Rattle.letters.specs.Letters.{letters}

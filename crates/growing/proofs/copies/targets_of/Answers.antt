@@ -1,4 +1,4 @@
-use Prim.Native.Nat.{ℕ, ◌+◌, ◌-◌, ◌<◌}
+use Prim.Native.Nat.{ℕ, ◌+◌, ◌<◌}
 use mathlib.Core.Path.{◌≡◌, refl, sym, ◌∙◌}
 use mathlib.Core.Bool.{true}
 use mathlib.Core.List.{List}
@@ -8,7 +8,7 @@ use lib.ListN.{length, get_or, set, replicate, length-set}
 use lib.Seq.{get_or-set_same, get_or-set_other, ext_get_or}
 use Rattle.letters.specs.Letters.{letters}
 use Rattle.sets.proofs.Below.{length-each, each_at}
-use Rattle.rows.specs.Table.{Table, is_row, target}
+use Rattle.rows.specs.Table.{Table, is_row}
 use Rattle.rows.proofs.Facts.{row_inside}
 use Rattle.rows.proofs.Zeros.{zero-cell}
 use Rattle.growing.specs.Copies.{target_of, targets_of}

@@ -1,11 +1,9 @@
-use Prim.Native.Nat.{◌-◌}
 use mathlib.Core.Path.{◌≡◌}
 use native.Mathlib.Numerals.{add-one}
 use native.Mathlib.Omega.{arith}
 use borrow.Author.Rules.{rules}
 use Rattle.letters.specs.Letters.{letters}
 use Rattle.sets.specs.Below.{greatest}
-use Rattle.rows.specs.Rules.{above}
 use Rattle.growing.proofs.heights.height_over.Goals as goal
 
 pub loop-x-init : goal.loop-x-init

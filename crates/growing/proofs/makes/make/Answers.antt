@@ -2,10 +2,8 @@
 -- row agrees, and which is free; the row that is written comes into its bucket. Assumes nothing.
 use Prim.Native.Nat.{ℕ, ◌<◌}
 use mathlib.Core.Path.{◌≡◌, sym, ◌∙◌}
-use mathlib.Core.Logic.{⊎_elim}
 use native.Mathlib.Omega.{arith}
 use borrow.Author.Rules.{rules}
-use borrow.Author.Tests.{eqb-false}
 use mathlib.Core.List.{List}
 use lib.ListN.{get_or}
 use Rattle.letters.specs.Letters.{letters}

@@ -1,6 +1,5 @@
 -- `next_target` meets its promise: the letter itself has a target, or those that are skipped have none. Assumes nothing.
 use native.Mathlib.Omega.{arith}
-use lib.ListN.{get_or}
 use Rattle.rows.proofs.Skipping.{zeros-none}
 use Rattle.index.proofs.keys.next_target.Goals as goal
 

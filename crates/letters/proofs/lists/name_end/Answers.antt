@@ -1,4 +1,3 @@
-use Prim.Native.Nat.{◌-◌}
 use mathlib.Core.Path.{sym, ◌∙◌}
 use Rattle.letters.proofs.Lines.{end-past, end-here, end_later}
 use Rattle.letters.proofs.lists.name_end.Goals as goal

@@ -1,12 +1,11 @@
-use Prim.Native.Nat.{ℕ, ◌+◌, ◌-◌, ◌≤◌, ◌<◌}
+use Prim.Native.Nat.{ℕ, ◌+◌, ◌≤◌, ◌<◌}
 use native.Mathlib.Numerals.{add-one}
 use native.Mathlib.Omega.{arith}
 use mathlib.Core.Path.{◌≡◌}
 use borrow.Author.Rules.{rules}
-use borrow.Fn.PlainCycle.{and}
 use lib.ListN.{length, take}
 use Rattle.letters.specs.Letters.{letters}
-use Rattle.rows.specs.Table.{target, ends}
+use Rattle.rows.specs.Table.{ends}
 use Rattle.rows.specs.Tidy.{Arc}
 use Rattle.rows.proofs.Facts.{target_below}
 use Rattle.printing.proofs.Buffers.{Wrote, overlaid-wrote, lent, length-lent}

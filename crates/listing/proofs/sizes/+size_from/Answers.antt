@@ -1,9 +1,8 @@
-use Prim.Native.Nat.{ℕ, suc, ◌-◌, ◌<◌}
+use Prim.Native.Nat.{ℕ, suc, ◌<◌}
 use native.Mathlib.Numerals.{add-one}
 use native.Mathlib.Omega.{arith}
 use mathlib.Core.Path.{◌≡◌, refl, sym, ◌∙◌}
 use borrow.Author.Rules.{rules}
-use borrow.Fn.PlainCycle.{is, and}
 use Rattle.letters.specs.Letters.{letters}
 use Rattle.letters.specs.Lists.{longest_list}
 use Rattle.rows.specs.Table.{most_rows}

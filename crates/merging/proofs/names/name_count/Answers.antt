@@ -4,7 +4,7 @@ use native.Mathlib.Omega.{arith}
 use lib.ListN.{length}
 use Rattle.letters.specs.Lists.{longest_list}
 use Rattle.letters.proofs.Lines.{list-parts}
-use Rattle.sets.specs.Sets.{Words, both}
+use Rattle.sets.specs.Sets.{Words}
 use Rattle.merging.specs.Merging.{next_bytes}
 use Rattle.merging.proofs.Merging.{both-lists, Taken, left-taken, none_left}
 use Rattle.merging.proofs.names.name_count.Goals as goal

@@ -1,6 +1,5 @@
 use Prim.Native.Nat.{ℕ, suc, ◌-◌, ◌<◌}
 use mathlib.Core.Path.{◌≡◌, refl, sym, ◌∙◌}
-use borrow.Fn.PlainCycle.{is}
 use native.Mathlib.Omega.{arith}
 use Rattle.letters.specs.Letters.{letters}
 use Rattle.rows.specs.Table.{target}

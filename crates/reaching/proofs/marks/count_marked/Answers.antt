@@ -1,4 +1,3 @@
-use Prim.Native.Nat.{◌-◌}
 use native.Mathlib.Omega.{arith}
 use Rattle.letters.proofs.LetterSet.{flag-le}
 use Rattle.reaching.specs.Marks.{marked}

@@ -1,9 +1,8 @@
-use Prim.Native.Nat.{◌-◌, ◌<◌}
+use Prim.Native.Nat.{◌<◌}
 use mathlib.Core.Path.{◌≡◌}
 use native.Mathlib.Omega.{arith}
 use lib.ListN.{length}
 use Rattle.model.specs.Lists.{missions}
-use Rattle.rows.specs.Table.{start}
 use Rattle.rows.proofs.Facts.{named-inside}
 use Rattle.rows.proofs.Books.{start-named}
 use Rattle.reaching.proofs.Marking.{given-none, given-more}

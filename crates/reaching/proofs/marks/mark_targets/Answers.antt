@@ -1,9 +1,8 @@
-use Prim.Native.Nat.{◌-◌, ◌<◌}
+use Prim.Native.Nat.{◌<◌}
 use mathlib.Core.Path.{◌≡◌}
 use native.Mathlib.Omega.{arith}
 use lib.ListN.{length}
 use Rattle.letters.specs.Letters.{letters}
-use Rattle.rows.specs.Table.{target}
 use Rattle.rows.proofs.Facts.{named-inside, target-named}
 use Rattle.reaching.proofs.Marking.{given-none, given-more, targets-past}
 use Rattle.reaching.proofs.marks.mark_targets.Goals as goal

@@ -1,4 +1,3 @@
-use Prim.Native.Nat.{◌-◌}
 use mathlib.Core.Path.{sym, ◌∙◌}
 use Rattle.rows.proofs.Skipping.{zeros-none, zeros-both, zeros-eight}
 use native.Mathlib.Omega.{arith}

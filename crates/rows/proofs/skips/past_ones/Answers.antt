@@ -1,4 +1,3 @@
-use Prim.Native.Nat.{◌-◌}
 use native.Mathlib.Omega.{arith}
 use Rattle.rows.proofs.Skipping.{zeros-none, zeros-both, zeros-one}
 use Rattle.rows.proofs.skips.past_ones.Goals as goal

@@ -1,11 +1,9 @@
-use Prim.Native.Nat.{◌-◌}
 use mathlib.Core.Path.{sym, ◌∙◌}
-use mathlib.Core.Bool.{true}
 use native.Mathlib.Omega.{arith}
 use borrow.Author.Rules.{rules}
 use Rattle.letters.specs.Below.{all_below}
 use Rattle.letters.proofs.Below.{not_all_below}
-use Rattle.rows.specs.Rules.{end_ok, rule4}
+use Rattle.rows.specs.Rules.{rule4}
 use Rattle.sets.proofs.Loops.{all_more, all_done}
 use Rattle.rules.proofs.ends.rule4.Goals as goal
 

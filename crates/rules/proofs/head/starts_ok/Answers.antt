@@ -1,13 +1,9 @@
-use Prim.Native.Nat.{◌-◌}
 use mathlib.Core.Path.{◌≡◌, sym, ◌∙◌}
-use mathlib.Core.Bool.{true}
 use native.Mathlib.Omega.{arith}
 use borrow.Author.Rules.{rules}
 use Rattle.letters.specs.Below.{all_below}
 use Rattle.letters.proofs.Below.{not_all_below}
 use Rattle.model.specs.Lists.{missions}
-use Rattle.rows.specs.Table.{start}
-use Rattle.rows.specs.Rules.{start_ok}
 use Rattle.sets.proofs.Loops.{all_more, all_done}
 use Rattle.rules.proofs.head.starts_ok.Invariants.{fine}
 use Rattle.rules.proofs.head.starts_ok.Goals as goal

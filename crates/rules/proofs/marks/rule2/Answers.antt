@@ -1,12 +1,10 @@
-use Prim.Native.Nat.{◌-◌}
 use mathlib.Core.Path.{◌≡◌, sym, ◌∙◌}
-use mathlib.Core.Bool.{true}
 use native.Mathlib.Omega.{arith}
 use borrow.Author.Rules.{rules}
 use Rattle.letters.specs.Below.{all_below}
 use Rattle.letters.proofs.Below.{not_all_below}
 use Rattle.rows.specs.Table.{row_count}
-use Rattle.rows.specs.Rules.{mark_ok, rule2}
+use Rattle.rows.specs.Rules.{rule2}
 use Rattle.rows.proofs.Facts.{inside-row}
 use Rattle.sets.proofs.Loops.{all_more, all_done}
 use Rattle.rules.proofs.marks.rule2.Invariants.{fine}

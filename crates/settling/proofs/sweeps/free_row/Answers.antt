@@ -1,4 +1,3 @@
-use Prim.Native.Nat.{◌-◌}
 use native.Mathlib.Omega.{arith}
 use Rattle.rows.proofs.Facts.{row_inside}
 use Rattle.settling.proofs.Sweeping.{freed-none, freed-more, freed-done}
