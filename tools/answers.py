@@ -60,6 +60,15 @@ class Fun:
             n += 1
         return n if place == target else None
 
+    def arm_end(self, place):
+        """The place where all of an arm's facts are known."""
+        while place is not None:
+            arm = self.arms[self.index[place]] if self.index[place] < len(self.arms) else None
+            more = arm and [p[0] for i, p in enumerate(self.places) if p[1] == place and i < len(self.arms) and self.arms[i] and self.arms[i][0] == arm[0]]
+            if not more:
+                return place
+            place = more[0]
+
     def named(self, place):
         return self.by_name[self.index[place]]
 
@@ -105,6 +114,8 @@ class Fun:
             old, new = self.places[i][2]
             if norm(old) == norm(step):
                 fields = dict((a, b) for a, b in self.places[i][4]) if self.places[i][4] else {}
+                if rest and rest[0] in ("taken", "left") and (new.startswith("if-") or new.endswith("-test")):
+                    rest = ["true" if rest[0] == "taken" else "false"] + rest[1:]
                 if rest and rest[0] in fields:
                     rest = [fields[rest[0]]] + rest[1:]
                 elif rest and rest[0] == "inv":
@@ -187,7 +198,8 @@ class Turn:
         self.said.append(f"look: {self.path}: {text}")
 
     def place_of(self, old):
-        return self.fun.places_norm.get(norm(old))
+        place = self.fun.places_norm.get(norm(old))
+        return place and self.fun.arm_end(place)
 
     def context_type(self, m):
         place = self.place_of(m.group(2))
@@ -248,59 +260,47 @@ class Turn:
         self.naked = True
         return pat.sub(sub, text)
 
-    def body(self, text, roots, wrapped):
-        """A body, with its `let`s of contexts taken out."""
-        out, roots = [], dict(roots)
-        changed = True
-        while changed:
-            changed = False
-            for m in re.finditer(r"let (" + WORD + r") = ((?:(" + WORD + r") )?\(?(" + "|".join(map(re.escape, sorted(roots, key=len, reverse=True))) + r")((?:\.before)*)\)?) in(?=\s)[ \t]*\n?[ \t]*", text):
-                new, view, root, bs = m.group(1), m.group(3), m.group(4), m.group(5)
-                place, base, n = roots[root]
-                k = bs.count(".before")
-                if view:
-                    if view not in self.views:
-                        continue
-                    target = self.views[view]
-                    at, steps = self.fun.up(place, k), 0
-                    while at is not None and at != target:
-                        at, steps = self.fun.up(at, 1), steps + 1
-                    if at is None:
-                        self.look(f"{view} from {root}")
-                        continue
-                    roots[new] = (target, base, n + k + steps)
-                else:
-                    roots[new] = (self.fun.up(place, k), base, n + k)
-                lead = ""
-                tail = text[m.end():]
-                text = text[: m.start()] + lead + tail
-                changed = True
-                break
-        # a view called in the middle of a term
-        inlines, again = [], [False]
+    def without_lets(self, text, roots):
+        """Takes the first `let` of a context out, and remembers its name."""
+        names = "|".join(map(re.escape, sorted(roots, key=len, reverse=True)))
+        m = re.search(r"let (" + WORD + r") = \(?(" + names + r")((?:\.before)*)\)? in(?=\s)[ \t]*\n?[ \t]*", text)
+        if not m:
+            return text
+        new, root, bs = m.groups()
+        place, base, n = roots[root]
+        k = bs.count(".before")
+        roots[new] = (self.fun.up(place, k), base, n + k)
+        return text[: m.start()] + text[m.end():]
+
+    def without_views(self, text, roots):
+        """Writes out each call of a definition that only goes up from a context."""
+        names = "|".join(map(re.escape, sorted(roots, key=len, reverse=True)))
         for view, target in self.views.items():
+
             def inline(m, view=view, target=target):
                 root, bs = m.group(1), m.group(2)
-                place, base, n = roots[root]
-                at, k = self.fun.up(place, bs.count(".before")), 0
+                at, k = self.fun.up(roots[root][0], bs.count(".before")), 0
                 while at is not None and at != target:
                     at, k = self.fun.up(at, 1), k + 1
                 if at is None:
                     self.look(f"{view} from {root}{bs}")
                     return m.group(0)
-                again[0] = True
                 return root + bs + ".before" * k
-            inlines.append((view, inline))
-        alts = "|".join(map(re.escape, sorted(roots, key=len, reverse=True)))
-        again[0] = True
-        while again[0]:
-            again[0] = False
-            for view, inline in inlines:
-                head = r"(?<![\w'.\-])" + re.escape(view) + r" "
-                ctx = r"(" + alts + r")((?:\.before)*)(?![\w.'\-])"
-                text = re.sub(r"\(" + head + ctx + r"\)", inline, text)
-                text = re.sub(r"\(" + head + r"(" + alts + r")((?:\.before)*)\)", inline, text)
-                text = re.sub(head + ctx, inline, text)
+
+            head = r"(?<![\w'.\-])" + re.escape(view) + r" "
+            ctx = r"(" + names + r")((?:\.before)*)(?![\w.'\-])"
+            text = re.sub(r"\(" + head + ctx + r"\)", inline, text)
+            text = re.sub(head + ctx, inline, text)
+        return text
+
+    def body(self, text, roots, wrapped):
+        """A body, with its `let`s of contexts taken out."""
+        roots = dict(roots)
+        was = None
+        while was != text:
+            was = text
+            text = self.without_views(text, roots)
+            text = self.without_lets(text, roots)
         return self.walk(text, roots, wrapped)
 
 

@@ -90,7 +90,7 @@ module _ (t : Table) (s : sound t ≡ true) (m : ℕ) (h : m < missions) where
         → run (book_of t) (set_call on m name)
         ≡ cond done (leaves (replace (lists t) m wanted) (flag (not (beq b on)))) (refused 11 (book_of t))
     set-run b e done f =
-        set-ruled (book_of t) on m name ∙ rw (sound-length t s, mission-under m h, named, s, e) (fits-or-not t m wanted _ _ done f)
+        set-ruled (book_of t) on m name ∙ rw (sound-length t s, mission-under m h, named, s, e) (fits-or-not t m wanted (book_of t) _ done f)
 
     -- the name is as wanted already
     pub set_same : member (word_of name) list ≡ on → Changes t t (set_call on m name) (answer_reply (answer.Done 0))

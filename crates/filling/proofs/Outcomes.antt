@@ -111,7 +111,7 @@ module _ (t : Table) (m : ℕ) (first second : List ℕ) (fine : Loadable t m fi
         nothing = none_or_some length (λ w l. omega arith) loaded;
         says = λ done e. run-ruled (book_of t) (load_two m first second)
             ∙ rw (sound-length t fine.sound, mission-under m fine.mission, fine.listed, fine.also, fine.sound, none)
-            (fits-or-not t m loaded _ _ done e);
+            (fits-or-not t m loaded (book_of t) _ done e);
       }
     where
       none : list_of (lists t) m ≡ []
@@ -216,7 +216,7 @@ module _ (t : Table) (op a b c : ℕ) (fine : Combinable t op a b c) where
             list-names t a first,
             list-names t b second,
           )
-          (fits-or-not t c result _ _ done e)
+          (fits-or-not t c result (book_of t) _ done e)
 
 -- "combine 1 if the result has a name, else 0": it has one if it has a row
 pub combined-value : {t u : Table} {l : Words} {r : ℕ} (most : ℕ) → MadeRow most t u l r → flag (ltb 0 r) ≡ flag (has_names l)

@@ -6,7 +6,7 @@
 use Prim.Native.Nat.{ℕ, ◌+◌, ◌*◌, ◌/◌, ◌≤◌, ◌<◌}
 use native.Mathlib.Omega.{arith}
 use native.Mathlib.Decide.{ℕ_discrete}
-use mathlib.Core.Path.{◌≡◌, refl, sym, ◌∙◌, ap}
+use mathlib.Core.Path.{◌≡◌, refl, sym, ◌∙◌, ap, subst}
 use mathlib.Core.Bool.{Bool, true, false, cond, false≢true}
 use mathlib.Core.Logic.{inl, inr}
 use mathlib.Core.List.Memᴰ
@@ -194,7 +194,7 @@ module _ (t : Table) (m r : ℕ) (tidy : Tidy t) (below : m < missions) where
         step s x a e =
             let same : target v s x ≡ target t s x = same_target t v s (λ i h. start_cell t m r below s i a.used.positive) x a.letter in
             let arc : Arc v s x = record { used = used-after t m r below s a.used; letter = a.letter; there = rw same a.there } in
-            rw same at (reached-arc v neat roots roots-named s x e arc)
+            subst (λ (n : ℕ). reached_from v roots n ≡ true) same (reached-arc v neat roots roots-named s x e arc)
 
   -- and as many arcs lead to each row
   arcs-same : (s : ℕ) → arcs_to (with_start t m r) s ≡ arcs_to t s

@@ -9,7 +9,7 @@ use Rattle.building.specs.Groups.{Begins}
 use Rattle.building.proofs.Building.{name-short, passed_none, next-begins, deeper, letter-small, passed-more, passed-less, passed-full}
 use Rattle.building.proofs.Building.{passed-fits, passed-made, passed-behind}
 use Rattle.building.proofs.groups.+build.Goals as goal
-use Rattle.building.proofs.groups.+build.Goals.{After-letter_of-x, After-next_at-next, At-loop-ahead}
+use Rattle.building.proofs.groups.+build.Goals.{After-letter_of-x, After-next_at-next}
 
 pub first_ahead-ahead-requires : goal.first_ahead-ahead-requires
 first_ahead-ahead-requires bound c = c.requires.2
@@ -26,16 +26,13 @@ next_at-next-requires bound c = c.requires.2.next
 -- the next name begins with the letters of the group, and goes on
 inside : (bound : ℕ) → (c : After-next_at-next bound) → c.args.depth < length c.next_at-next.result.now
 inside bound c =
-    let l = (goal.at.After-next_at-next bound c).At-loop-ahead in
-    deeper (start l).pre.1.2 l.loop.inv.0 c.loop-ahead-test.true _ c.next_at-next.ensures
+    deeper c.requires.2 c.loop-ahead.invariant.0 c.loop-ahead-test.true _ c.next_at-next.ensures
 
 next-group : (bound : ℕ) → (c : After-next_at-next bound) →
-    let l = (goal.at.After-next_at-next bound c).At-loop-ahead in
-    let args = (start l).args in
-    Begins args.first.now args.second.now l.loop.ahead.places c.next_at-next.result.now (args.depth + 1)
+    let args = c.args in
+    Begins args.first.now args.second.now c.loop-ahead.ahead.places c.next_at-next.result.now (args.depth + 1)
 next-group bound c =
-    let l = (goal.at.After-next_at-next bound c).At-loop-ahead in
-    next-begins (start l).pre.1.2 l.loop.inv.0 c.loop-ahead-test.true _ c.next_at-next.ensures
+    next-begins c.requires.2 c.loop-ahead.invariant.0 c.loop-ahead-test.true _ c.next_at-next.ensures
 
 pub bounds-next-depth : goal.bounds-next-depth
 bounds-next-depth bound c = let deep = inside bound (goal.at.bounds-next-depth bound c).After-next_at-next in search rules
@@ -45,9 +42,8 @@ overflow_add-depth bound c = let deep = inside bound (goal.at.overflow_add-depth
 
 pub build-requires : goal.build-requires
 build-requires bound c =
-    let l = (goal.at.build-requires bound c).At-loop-ahead in
-    let (passed, indexed) = l.loop.inv in
-    (omega (arith, inside bound (goal.at.build-requires bound c).After-next_at-next, name-short (next-group bound (goal.at.build-requires bound c).After-next_at-next), (start l).pre.0), (passed.made.grows.tidy, indexed, next-group bound (goal.at.build-requires bound c).After-next_at-next))
+    let (passed, indexed) = c.loop-ahead.invariant in
+    (omega (arith, inside bound (goal.at.build-requires bound c).After-next_at-next, name-short (next-group bound (goal.at.build-requires bound c).After-next_at-next), c.decreases), (passed.made.grows.tidy, indexed, next-group bound (goal.at.build-requires bound c).After-next_at-next))
 
 pub shape_of-index-in_default : goal.shape_of-index-in_default
 shape_of-index-in_default bound c =
@@ -56,14 +52,12 @@ shape_of-index-in_default bound c =
 
 pub returns-in_default : goal.returns-in_default
 returns-in_default bound c =
-    let l = (goal.at.returns-in_default bound c).At-loop-ahead in
-    let builds = c.build.ensures.builds in let indexed = c.build.ensures.indexed in (record { builds = passed-full (start l).pre.1.2 l.loop.inv.0 c.loop-ahead-test.taken _ c.next_at-next.ensures _ (rw c.in_default.is at builds); indexed = indexed })
+    let builds = c.build.ensures.builds in let indexed = c.build.ensures.indexed in (record { builds = passed-full c.requires.2 c.loop-ahead.invariant.0 c.loop-ahead-test.true _ c.next_at-next.ensures _ (rw c.in_default.is at builds); indexed = indexed })
 
 -- the letter that its group goes on with
 small : (bound : ℕ) → (c : After-letter_of-x bound) → c.letter_of-x.result < letters
 small bound c =
-    let l = (goal.at.After-letter_of-x bound c).At-loop-ahead in
-    rw c.letter_of-x.ensures (letter-small (start l).pre.1.2 l.loop.inv.0 c.loop-ahead-test.true _ c.next_at-next.ensures)
+    rw c.letter_of-x.ensures (letter-small c.requires.2 c.loop-ahead.invariant.0 c.loop-ahead-test.true _ c.next_at-next.ensures)
 
 pub offset_bounds-targets-x : goal.offset_bounds-targets-x
 offset_bounds-targets-x bound c = let low = small bound (goal.at.offset_bounds-targets-x bound c).After-letter_of-x in search rules
@@ -73,17 +67,15 @@ bounds-targets-x bound c = let low = small bound (goal.at.bounds-targets-x bound
 
 pub loop-ahead-smaller : goal.loop-ahead-smaller
 loop-ahead-smaller bound c =
-    let l = (goal.at.loop-ahead-smaller bound c).At-loop-ahead in
     let built = rw c.in-Group.is at c.build.ensures.builds in
-    passed-less (start l).pre.1.2 l.loop.inv.0 c.loop-ahead-test.taken _ c.next_at-next.ensures _ _ _ built
+    passed-less c.requires.2 c.loop-ahead.invariant.0 c.loop-ahead-test.true _ c.next_at-next.ensures _ _ _ built
 
 pub loop-ahead-preserved : goal.loop-ahead-preserved
 loop-ahead-preserved bound c =
-    let l = (goal.at.loop-ahead-preserved bound c).At-loop-ahead in
     let builds = c.build.ensures.builds in let indexed = c.build.ensures.indexed in
     let built = rw c.in-Group.is at builds in (
       rw c.letter_of-x.ensures
-          (passed-more (start l).pre.1.2 l.loop.inv.0 c.loop-ahead-test.taken _ c.next_at-next.ensures _ _ _ built),
+          (passed-more c.requires.2 c.loop-ahead.invariant.0 c.loop-ahead-test.true _ c.next_at-next.ensures _ _ _ built),
       indexed,
     )
 
@@ -100,7 +92,7 @@ shape_of-index-in_default-make bound c =
 pub returns-in_default-make : goal.returns-in_default-make
 returns-in_default-make bound c =
     let makes = c.make.ensures.makes in let indexed = c.make.ensures.indexed in (record {
-      builds = passed-made c.requires.2 c.loop-ahead.invariant.0 c.loop-ahead-test.left _ Full
+      builds = passed-made c.requires.2 c.loop-ahead.invariant.0 c.loop-ahead-test.false _ Full
           (rw (c.in_default-make.is, c.end_mark.ensures) at makes);
       indexed = indexed;
     })
@@ -117,8 +109,8 @@ returns bound c =
     let makes = c.make.ensures.makes in let indexed = c.make.ensures.indexed in
     let made = rw (c.in-Row.is, c.end_mark.ensures) at makes in (record {
       builds = record {
-        made = passed-made begins passed c.loop-ahead-test.left _ (Row _) made;
-        behind = passed-behind begins passed c.loop-ahead-test.left;
+        made = passed-made begins passed c.loop-ahead-test.false _ (Row _) made;
+        behind = passed-behind begins passed c.loop-ahead-test.false;
       };
       indexed = indexed;
     })

@@ -1,11 +1,12 @@
 -- `settle` meets its promise. If the rows reached with the new start fit, the others are freed; else the old start is set again, and that is the
 -- table as it was, which is swept. That they fit is the test of the lists. Assumes nothing.
 use Prim.Native.Nat.{ℕ}
-use mathlib.Core.Path.{◌≡◌, sym, ap, ◌∙◌}
+use mathlib.Core.Path.{◌≡◌, sym, ap, ◌∙◌, subst}
 use mathlib.Core.Bool.{Bool, true, false, cond}
 use Rattle.rows.specs.Table.{Table}
 use Rattle.rows.specs.Words.{words}
 use Rattle.rows.specs.Reach.{swept}
+use Rattle.reaching.specs.Leads.{ReachedWith}
 use Rattle.settling.specs.Settled.{with_start, fits}
 use Rattle.settling.proofs.Settling.{start_back, start-tidy, start-says, old-named, start-reached, start-arcs}
 use Rattle.settling.proofs.settles.settle.Goals as goal
@@ -15,24 +16,24 @@ use Rattle.settling.proofs.settles.settle.Goals.{After-set_start-2, After-sweep_
 left_by : {v w after : Table} {done : Bool} (told : Bool) → after ≡ cond done (swept v) v → done ≡ told → v ≡ w → after ≡ cond told (swept w) w
 left_by told e h same = e ∙ rw (h, same)
 
-module _ (c : tie.After-sweep-if-fits) where
-  abbrev entry : tie.Start
-  entry = c.before.before.before.before.before.before.before.before.before.before
+-- what is reached with a row, is so with the same row in the same table
+reached-alike : {v w : Table} {n k : ℕ} → v ≡ w → n ≡ k → ReachedWith w k → ReachedWith v n
+reached-alike {v} {w} {n} {k} e d all = subst (λ (u : Table). ReachedWith u n) (sym e) (subst (λ (i : ℕ). ReachedWith w i) (sym d) all)
 
-  abbrev t : Table
-  t = entry.args.t.now
+abbrev t : After-sweep_if_fits → Table
+t c = c.args.t.now
 
-  abbrev m : ℕ
-  m = entry.args.m
+abbrev m : After-sweep_if_fits → ℕ
+m c = c.args.m
 
-  abbrev r : ℕ
-  r = entry.args.r
+abbrev r : After-sweep_if_fits → ℕ
+r c = c.args.r
 
-  new : c.before.before.before.before.set-start.new.0 ≡ with_start t m r
-  new = c.before.before.before.before.set-start.ensures
+new : (c : After-sweep_if_fits) → c.set_start.new.t ≡ with_start (t c) (m c) (r c)
+new c = c.set_start.ensures
 
-  says : c.sweep-if-fits.result ≡ fits t m (words t r)
-  says = c.sweep-if-fits.ensures.says ∙ start-says t m r entry.pre.0 entry.pre.2 entry.pre.3 new
+says : (c : After-sweep_if_fits) → c.sweep_if_fits.result ≡ fits (t c) (m c) (words (t c) (r c))
+says c = c.sweep_if_fits.ensures.says ∙ start-says (t c) (m c) (r c) c.requires.0 c.requires.2 c.requires.3 (new c)
 
 back : (c : After-set_start-2) → c.set_start-2.new.t ≡ t (goal.at.After-set_start-2 c).After-sweep_if_fits
 back c =
@@ -43,12 +44,13 @@ back c =
 pub sweep_if_fits-requires : goal.sweep_if_fits-requires
 sweep_if_fits-requires c =
     let (tidy, indexed, below, startable, reach) = c.requires in
-    rw (c.set_start.ensures, c.start-old.ensures) (
-      start-tidy _ _ _ tidy below startable,
-      old-named _ _ _ tidy below startable,
-      start-reached _ _ _ tidy below startable reach,
+    let set = c.set_start.ensures in
+    let old = c.start-old.ensures in (
+      rw set (start-tidy _ _ _ tidy below startable),
+      rw (set, old) (old-named _ _ _ tidy below startable),
+      reached-alike set old (start-reached _ _ _ tidy below startable reach),
       indexed.keys.long,
-      start-arcs _ _ _ tidy below c.args.index.now indexed.arcs,
+      rw set (start-arcs _ _ _ tidy below c.args.index.now indexed.arcs),
     )
 
 pub returns-then-sweep_if_fits : goal.returns-then-sweep_if_fits
@@ -59,7 +61,7 @@ returns-then-sweep_if_fits c =
     }
 
 pub sweep-requires : goal.sweep-requires
-sweep-requires c = rw (back (goal.at.sweep-requires c).After-set_start-2) (entry (goal.at.sweep-requires c).After-sweep_if_fits).pre.0
+sweep-requires c = rw (back (goal.at.sweep-requires c).After-set_start-2) c.requires.0
 
 pub returns : goal.returns
 returns c =

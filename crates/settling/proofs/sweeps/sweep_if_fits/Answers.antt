@@ -11,7 +11,7 @@ use Rattle.rows.specs.Reach.{reached}
 use Rattle.reaching.proofs.Spreading.{reached-count}
 use Rattle.settling.proofs.Sweeping.{taken-arcs, marks-only}
 use Rattle.settling.proofs.sweeps.sweep_if_fits.Goals as goal
-use Rattle.settling.proofs.sweeps.sweep_if_fits.Goals.{After-count_marked, Start}
+use Rattle.settling.proofs.sweeps.sweep_if_fits.Goals.{After-count_marked}
 
 too_many_lem : (a b n k : ℕ) → n ≡ a → k ≡ b → k < n → false ≡ leb a b
 too_many_lem a b n k e d h = rw (← e, ← d) (sym (lt-leb n k h))
@@ -38,8 +38,7 @@ returns-then-room-count_marked c =
 
 pub returns : goal.returns
 returns c =
-    let begin = (goal.at.returns c).Start in
     record {
       says = enough _ _ _ _ (counted (goal.at.returns c).After-count_marked) c.room.ensures c.if-room-count_marked.false;
-      table = c.sweep_rows.ensures ∙ marks-only begin.args.t.now _ _ begin.pre.0.whole c.mark_without.ensures;
+      table = c.sweep_rows.ensures ∙ marks-only c.args.t.now _ _ c.requires.0.whole c.mark_without.ensures;
     }
