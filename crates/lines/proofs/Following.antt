@@ -6,7 +6,7 @@ use native.Mathlib.Omega.{arith}
 use native.Mathlib.Decide.{dec_lt}
 use mathlib.Core.Path.{◌≡◌, refl, sym, ◌∙◌, ap}
 use mathlib.Core.Bool.{Bool, true, false, not, cond}
-use mathlib.Core.Logic.{inl, inr}
+use mathlib.Core.Logic.{◌⊎◌, inl, inr}
 use mathlib.Core.List.{List, [], ◌∷◌}
 use borrow.Author.Tests.{le-ltb}
 use denote.Enum.Declared.{tag_of}
@@ -47,12 +47,12 @@ use Rattle.lines.specs.Steps.{most_input, most_output}
 use Rattle.lines.specs.Sessions.{lists_after_line}
 
 -- nothing is written behind a line of another kind
-pub others-none : (b : Book) (m size : ℕ) (kind : Kind) → OneOf (0 ∷ 1 ∷ 2 ∷ []) (tag_of kinds.the_type kind)
+pub others-none : (b : Book) (m size : ℕ) (kind : Kind) → (kind ≡ Add) ⊎ ((kind ≡ Remove) ⊎ (kind ≡ Ask))
     → written_behind b (request.Call kind m) size ≡ []
 others-none b m size Add other = refl
 others-none b m size Remove other = refl
 others-none b m size Ask other = refl
-others-none b m size Count other = absurd (elim other [ inl e ↦ omega (arith, e) | inr e ↦ elim e [ inl e ↦ omega (arith, e) | inr e ↦ omega (arith, e) ] ])
+others-none b m size Count other = elim other [ inl e ↦ cc | inr e ↦ elim e [ inl d ↦ cc | inr d ↦ cc ] ]
 
 -- the value of write is how many bytes it wrote, also where it is refused
 pub written-long : (b : Book) (m size : ℕ) → (run b (write m size)).value ≡ length (run b (write m size)).written

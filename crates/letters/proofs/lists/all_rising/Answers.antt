@@ -5,19 +5,8 @@ use native.Mathlib.Omega.{arith}
 use lib.ListN.{length, take, drop, drop_of_length-le}
 use Rattle.letters.specs.Lists.{lines_of, rises, names_of}
 use Rattle.letters.proofs.Lines.{name-part, name_end-le, rises-more, rises-last}
-use Rattle.letters.proofs.lists.all_rising.Lts as lts
-use Rattle.letters.proofs.lists.all_rising.Tie as tie
-use Rattle.letters.proofs.lists.all_rising.Reads as reads
 use Rattle.letters.proofs.lists.all_rising.Goals as goal
-
-abbrev At-At-loop : Type 0
-At-At-loop = lts.At-loop tie.the-claims reads.Pre reads.Post goal.the-invariant-loop-end goal.the-decreases-loop-end
-
-abbrev At-After-name_end2 : Type 0
-At-After-name_end2 = lts.After-name_end2 tie.the-claims reads.Pre reads.Post goal.the-invariant-loop-end goal.the-decreases-loop-end
-
-abbrev At-After-is_before : Type 0
-At-After-is_before = lts.After-is_before tie.the-claims reads.Pre reads.Post goal.the-invariant-loop-end goal.the-decreases-loop-end
+use Rattle.letters.proofs.lists.all_rising.Goals.{After-is_before, After-name_end-next_end, At-loop-end}
 
 pub returns-then-s-eq0 : goal.returns-then-s-eq0
 unfolding rises lines_of
@@ -27,14 +16,14 @@ pub loop-end-init : goal.loop-end-init
 loop-end-init c = (omega arith, c.name_end-end.ensures, refl)
 
 -- a line ends within the list
-ends : (c : At-At-loop) → c.loop-end.end < length c.args.s.now + 1
+ends : (c : At-loop-end) → c.loop-end.end < length c.args.s.now + 1
 ends c = omega (arith, name_end-le c.args.s.now c.loop-end.at (omega (arith, c.loop-end.invariant.0)), c.loop-end.invariant.1)
 
 pub overflow_add-end : goal.overflow_add-end
-overflow_add-end c = omega (arith, ends c.before)
+overflow_add-end c = omega (arith, ends c)
 
 pub overflow_add-next : goal.overflow_add-next
-overflow_add-next c = omega (arith, ends c.before.before)
+overflow_add-next c = omega (arith, ends (goal.at.overflow_add-next c).At-loop-end)
 
 pub slice_bounds-is_before-count : goal.slice_bounds-is_before-count
 slice_bounds-is_before-count c = omega (arith, c.loop-end.invariant.1)
@@ -43,10 +32,10 @@ pub slice_bounds-is_before-start : goal.slice_bounds-is_before-start
 slice_bounds-is_before-start c = omega (arith, c.loop-end.invariant.1)
 
 pub slice_bounds-is_before-end : goal.slice_bounds-is_before-end
-slice_bounds-is_before-end c = omega (arith, ends c.before.before.before)
+slice_bounds-is_before-end c = omega (arith, ends (goal.at.slice_bounds-is_before-end c).At-loop-end)
 
 -- and so does the next one
-next-ends : (c : At-After-name_end2) →
+next-ends : (c : After-name_end-next_end) →
     c.name_end-next_end.result < length c.args.s.now + 1
 next-ends c =
     let s = c.args.s.now in
@@ -59,10 +48,10 @@ pub slice_bounds-is_before-start-in-loop-end : goal.slice_bounds-is_before-start
 slice_bounds-is_before-start-in-loop-end c = omega (arith, c.name_end-next_end.ensures)
 
 pub slice_bounds-is_before-end-in-loop-end : goal.slice_bounds-is_before-end-in-loop-end
-slice_bounds-is_before-end-in-loop-end c = omega (arith, next-ends c.before.before)
+slice_bounds-is_before-end-in-loop-end c = omega (arith, next-ends (goal.at.slice_bounds-is_before-end-in-loop-end c).After-name_end-next_end)
 
 -- once the two names are compared
-compared : (c : At-After-is_before) →
+compared : (c : After-is_before) →
     let s = c.args.s.now in
     rises (names_of s) ≡ (c.is_before.result && rises (names_of (drop (c.loop-end.end + 1) s)))
 compared c =
@@ -76,7 +65,7 @@ compared c =
     ∙ rw c.is_before.ensures
 
 pub returns-then-not-is_before : goal.returns-then-not-is_before
-returns-then-not-is_before c = rw (compared c.before.before, c.if-not-is_before.true)
+returns-then-not-is_before c = rw (compared (goal.at.returns-then-not-is_before c).After-is_before, c.if-not-is_before.true)
 
 pub loop-end-smaller : goal.loop-end-smaller
 loop-end-smaller c = omega (arith, c.loop-end.invariant.0, c.loop-end.invariant.1)
@@ -85,7 +74,7 @@ pub loop-end-preserved : goal.loop-end-preserved
 loop-end-preserved c = (
   c.loop-end-test.true,
   c.name_end-next_end.ensures,
-  rw (compared c.before.before, c.if-not-is_before.false),
+  rw (compared (goal.at.loop-end-preserved c).After-is_before, c.if-not-is_before.false),
 )
 
 pub returns : goal.returns

@@ -11,17 +11,8 @@ use Rattle.letters.specs.Letters.{letter}
 use Rattle.letters.specs.Words.{then, order}
 use Rattle.letters.proofs.Compare.{compare_same, compare-lt, compare-gt}
 use Rattle.letters.proofs.names.order_of.Invariants.{order_from}
-use Rattle.letters.proofs.names.order_of.Lts as lts
-use Rattle.letters.proofs.names.order_of.Tie as tie
-use Rattle.letters.proofs.names.order_of.Reads as reads
 use Rattle.letters.proofs.names.order_of.Goals as goal
-use Rattle.letters.proofs.names.order_of.Goals.{then-a-i+else-x-y+else-y-x, else-a-i}
-
-abbrev At-After-shared_slice_known4 : Type 0
-At-After-shared_slice_known4 = lts.After-shared_slice_known4 tie.the-claims reads.Pre reads.Post goal.the-invariant-loop-i goal.the-decreases-loop-i
-
-abbrev At-After-letter_of2 : Type 0
-At-After-letter_of2 = lts.After-letter_of2 tie.the-claims reads.Pre reads.Post goal.the-invariant-loop-i goal.the-decreases-loop-i
+use Rattle.letters.proofs.names.order_of.Goals.{then-a-i+else-x-y+else-y-x, else-a-i, After-letter_of-y, Else-b-i}
 
 module _ (a b : List ℕ) (i : ℕ) where
   a-over : length a ≤ i → i < length b → order_from a b i ≡ Ordering.lt
@@ -42,39 +33,43 @@ module _ (a b : List ℕ) (i : ℕ) where
   both-letters x y h k p q = rw (p, q, add-one, drop-cons a i 0, drop-cons b i 0)
 
 -- where both names have a letter at `i`, their order is that of letters x and y, or else of what follows
-abbrev Decide : At-After-shared_slice_known4 → ℕ → ℕ → Type 0
+abbrev Decide : Else-b-i → ℕ → ℕ → Type 0
 Decide c x y =
     let args = c.args in
     order_from args.a.now args.b.now 0 ≡ then (compare x y) (order_from args.a.now args.b.now (c.loop-i.i + 1))
 
-letters-decide : (c : At-After-shared_slice_known4) →
+letters-decide : (c : Else-b-i) →
     let args = c.args in
     (x y : ℕ) → x ≡ letter (get_or args.a.now c.loop-i.i 0) → y ≡ letter (get_or args.b.now c.loop-i.i 0) → Decide c x y
 letters-decide c x y p q =
     c.loop-i.invariant.1 ∙ both-letters _ _ _ x y c.loop-i-test.true c.if-b-i.false p q
 
 -- once both letters at `i` are read
-both_read : (c : At-After-letter_of2)
-    → Decide c.before.before.before.before.before c.letter_of-x.result c.letter_of-y.result
+both_read : (c : After-letter_of-y)
+    → Decide (goal.at.After-letter_of-y c).Else-b-i c.letter_of-x.result c.letter_of-y.result
 both_read c =
-    letters-decide c.before.before.before.before.before _ _ c.letter_of-x.ensures c.letter_of-y.ensures
+    letters-decide (goal.at.After-letter_of-y c).Else-b-i _ _ c.letter_of-x.ensures c.letter_of-y.ensures
 
 pub returns-then-b-i : goal.returns-then-b-i
 returns-then-b-i c = rw (c.loop-i.invariant.1, b-over _ _ _ c.loop-i-test.true c.if-b-i.true)
 
 pub returns-then-x-y : goal.returns-then-x-y
-returns-then-x-y c = rw (both_read c.before.before, compare-lt _ _ c.if-x-y.true)
+returns-then-x-y c = rw (both_read (goal.at.returns-then-x-y c).After-letter_of-y, compare-lt _ _ c.if-x-y.true)
 
 pub returns-then-y-x : goal.returns-then-y-x
-returns-then-y-x c = rw (both_read c.before.before.before, compare-gt _ _ c.if-y-x.true)
+returns-then-y-x c = rw (both_read (goal.at.returns-then-y-x c).After-letter_of-y, compare-gt _ _ c.if-y-x.true)
 
 pub loop-i-preserved : goal.loop-i-preserved
 loop-i-preserved c = (
   search rules,
   elim c.if-a-i.branch [
     | then-a-i+else-x-y+else-y-x w ↦
-        rw (letters-decide c.before.before _ _ w.letter_of-x.ensures w.letter_of-y.ensures, le_antisymm w.if-y-x.false w.if-x-y.false, compare_same)
-    | else-a-i w ↦ rw (letters-decide c.before.before _ _ refl (ap letter w.if-a-i.false), compare_same)
+        rw (
+          letters-decide (goal.at.loop-i-preserved c).Else-b-i _ _ w.letter_of-x.ensures w.letter_of-y.ensures,
+          le_antisymm w.if-y-x.false w.if-x-y.false,
+          compare_same,
+        )
+    | else-a-i w ↦ rw (letters-decide (goal.at.loop-i-preserved c).Else-b-i _ _ refl (ap letter w.if-a-i.false), compare_same)
   ],
 )
 

@@ -7,19 +7,11 @@ use Rattle.letters.proofs.Lines.{list-parts}
 use Rattle.sets.specs.Sets.{Words, both}
 use Rattle.merging.specs.Merging.{next_bytes}
 use Rattle.merging.proofs.Merging.{both-lists, Taken, left-taken, none_left}
-use Rattle.merging.proofs.names.name_count.Lts as lts
-use Rattle.merging.proofs.names.name_count.Tie as tie
-use Rattle.merging.proofs.names.name_count.Reads as reads
 use Rattle.merging.proofs.names.name_count.Goals as goal
-
-abbrev At-At-loop : Type 0
-At-At-loop = lts.At-loop tie.the-claims reads.Pre reads.Post goal.the-invariant-loop-at goal.the-decreases-loop-at
-
-abbrev At-After-places_after : Type 0
-At-After-places_after = lts.After-places_after tie.the-claims reads.Pre reads.Post goal.the-invariant-loop-at goal.the-decreases-loop-at
+use Rattle.merging.proofs.names.name_count.Goals.{After-places_after-at, At-loop-at}
 
 -- both have at most 65,535 bytes
-short : (c : At-At-loop) →
+short : (c : At-loop-at) →
     let args = c.args in
     length args.first.now + length args.second.now ≤ longest_list + longest_list
 short c =
@@ -27,7 +19,7 @@ short c =
     omega (arith, (list-parts _ one).0, (list-parts _ two).0)
 
 -- one name more
-more : (c : At-After-places_after) →
+more : (c : After-places_after-at) →
     let args = c.args in
     let at = c.loop-at.at in
     Taken args.first.now args.second.now at (next_bytes args.first.now args.second.now at) c.places_after-at.result
@@ -39,22 +31,22 @@ pub loop-at-init : goal.loop-at-init
 loop-at-init c = let (one, two) = c.requires in (both-lists _ _ one two, omega arith, omega arith)
 
 pub overflow_add-at : goal.overflow_add-at
-overflow_add-at c = omega (arith, short c.before.before, c.loop-at.invariant.0.first.inside, c.loop-at.invariant.0.second.inside)
+overflow_add-at c = omega (arith, short (goal.at.overflow_add-at c).At-loop-at, c.loop-at.invariant.0.first.inside, c.loop-at.invariant.0.second.inside)
 
 pub overflow_add-first : goal.overflow_add-first
-overflow_add-first c = omega (arith, short c.before.before)
+overflow_add-first c = omega (arith, short (goal.at.overflow_add-first c).At-loop-at)
 
 pub overflow_add-n : goal.overflow_add-n
 overflow_add-n c =
-    omega (arith, short c.before.before.before.before, c.loop-at.invariant.2, c.loop-at.invariant.0.first.inside, c.loop-at.invariant.0.second.inside)
+    omega (arith, short (goal.at.overflow_add-n c).At-loop-at, c.loop-at.invariant.2, c.loop-at.invariant.0.first.inside, c.loop-at.invariant.0.second.inside)
 
 pub loop-at-smaller : goal.loop-at-smaller
-loop-at-smaller c = (more c.before).less
+loop-at-smaller c = (more c).less
 
 pub loop-at-preserved : goal.loop-at-preserved
 loop-at-preserved c =
     let (lists, all, few) = c.loop-at.invariant in
-    let one = more c.before in (
+    let one = more c in (
       one.lists,
       omega (arith, all, ap (λ (l : Words). length l) one.words),
       omega (arith, few, one.less, lists.first.inside, lists.second.inside, one.lists.first.inside, one.lists.second.inside),

@@ -6,33 +6,28 @@ use Rattle.merging.specs.declared.places.Turn.{Turn}
 use Rattle.merging.specs.declared.places.Turn.TheVariants.{First, Second, Both, Neither}
 use Rattle.merging.specs.Merging.{turn_of}
 use Rattle.merging.proofs.Turns.{left_by}
-use Rattle.merging.proofs.names.next_part.Lts as lts
-use Rattle.merging.proofs.names.next_part.Tie as tie
-use Rattle.merging.proofs.names.next_part.Reads as reads
 use Rattle.merging.proofs.names.next_part.Goals as goal
-
-abbrev At-After-whose_turn : Type 0
-At-After-whose_turn = lts.After-whose_turn tie.the-claims reads.Pre reads.Post tie.handed_clauses
+use Rattle.merging.proofs.names.next_part.Goals.{After-whose_turn}
 
 -- whose turn it is
-told : (c : At-After-whose_turn) (turn : Turn) → c.whose_turn.result ≡ turn
+told : (c : After-whose_turn) (turn : Turn) → c.whose_turn.result ≡ turn
     → let args = c.args in turn_of args.first.now args.second.now args.at ≡ turn
 told c turn e = sym c.whose_turn.ensures ∙ e
 
 pub returns-in-First : goal.returns-in-First
 returns-in-First c =
-    let turn = told c.before.before.before First c.in-First.is in
+    let turn = told (goal.at.returns-in-First c).After-whose_turn First c.in-First.is in
     rw turn (c.name_at.ensures.part (le_of_lt (left_by _ _ _ First turn).0))
 
 pub returns-in-Both : goal.returns-in-Both
 returns-in-Both c =
-    let turn = told c.before.before.before Both c.in-Both.is in
+    let turn = told (goal.at.returns-in-Both c).After-whose_turn Both c.in-Both.is in
     rw turn (c.name_at-in-Both.ensures.part (le_of_lt (left_by _ _ _ Both turn).0))
 
 pub returns-in-Second : goal.returns-in-Second
 returns-in-Second c =
-    let turn = told c.before.before.before Second c.in-Second.is in
+    let turn = told (goal.at.returns-in-Second c).After-whose_turn Second c.in-Second.is in
     rw turn (c.name_at-in-Second.ensures.part (le_of_lt (left_by _ _ _ Second turn).0))
 
 pub returns-in-Neither : goal.returns-in-Neither
-returns-in-Neither c = rw (told c.before.before.before Neither c.in-Neither.is) refl
+returns-in-Neither c = rw (told (goal.at.returns-in-Neither c).After-whose_turn Neither c.in-Neither.is) refl

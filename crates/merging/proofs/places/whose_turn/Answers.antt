@@ -4,16 +4,11 @@ use Rattle.letters.specs.declared.names.Order.TheVariants.{Before, Same, After}
 use Rattle.letters.specs.declared.names.Order.{Order}
 use Rattle.merging.specs.Merging.{turn_of}
 use Rattle.merging.proofs.Turns.{turn-neither, turn-second, turn-first, answer, turn-answer}
-use Rattle.merging.proofs.places.whose_turn.Lts as lts
-use Rattle.merging.proofs.places.whose_turn.Tie as tie
-use Rattle.merging.proofs.places.whose_turn.Reads as reads
 use Rattle.merging.proofs.places.whose_turn.Goals as goal
-
-abbrev At-After-order_of : Type 0
-At-After-order_of = lts.After-order_of tie.the-claims reads.Pre reads.Post tie.handed_clauses
+use Rattle.merging.proofs.places.whose_turn.Goals.{After-order_of}
 
 -- the order of the two names decides
-decided : (c : At-After-order_of) (r : Order) → c.order_of.result ≡ r
+decided : (c : After-order_of) (r : Order) → c.order_of.result ≡ r
     → let args = c.args in
     answer r ≡ turn_of args.first.now args.second.now args.at
 decided c r e =
@@ -30,10 +25,10 @@ pub returns-then-second-j-2 : goal.returns-then-second-j-2
 returns-then-second-j-2 c = sym (turn-first _ _ _ c.if-first-i.false c.if-second-j-2.true)
 
 pub returns-in-Before : goal.returns-in-Before
-returns-in-Before c = decided c.before.before Before c.in-Before.is
+returns-in-Before c = decided (goal.at.returns-in-Before c).After-order_of Before c.in-Before.is
 
 pub returns-in-Same : goal.returns-in-Same
-returns-in-Same c = decided c.before.before Same c.in-Same.is
+returns-in-Same c = decided (goal.at.returns-in-Same c).After-order_of Same c.in-Same.is
 
 pub returns-in-After : goal.returns-in-After
-returns-in-After c = decided c.before.before After c.in-After.is
+returns-in-After c = decided (goal.at.returns-in-After c).After-order_of After c.in-After.is

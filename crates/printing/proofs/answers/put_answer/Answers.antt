@@ -10,63 +10,52 @@ use Rattle.letters.specs.Letters.{line_end}
 use Rattle.printing.specs.Printed.{field}
 use Rattle.printing.proofs.Buffers.{overlaid-wrote, wrote-byte, wrote-part, length-lent}
 use Rattle.printing.proofs.Decimal.{field-short}
-use Rattle.printing.proofs.answers.put_answer.Lts as lts
-use Rattle.printing.proofs.answers.put_answer.Tie as tie
-use Rattle.printing.proofs.answers.put_answer.Reads as reads
 use Rattle.printing.proofs.answers.put_answer.Goals as goal
-
-abbrev At-Start : Type 0
-At-Start = lts.Start tie.the-claims reads.Pre reads.Post tie.handed_clauses
-
-abbrev At-After-put_field : Type 0
-At-After-put_field = lts.After-put_field tie.the-claims reads.Pre reads.Post tie.handed_clauses
-
-abbrev At-After-put_field2 : Type 0
-At-After-put_field2 = lts.After-put_field2 tie.the-claims reads.Pre reads.Post tie.handed_clauses
+use Rattle.printing.proofs.answers.put_answer.Goals.{After-put_field-at, After-put_field-at-2, Start}
 
 -- there is room for both numbers and the line's end
-fields_fit : (c : At-Start) → let s = c.args in length s.line.now + length (field s.number) + length (field s.value) < length s.out.now
+fields_fit : (c : Start) → let s = c.args in length s.line.now + length (field s.number) + length (field s.value) < length s.out.now
 fields_fit c =
     let s = c.args in
     omega (arith, c.requires, field-short s.number (omega (arith, c.ranges.number)), field-short s.value (omega (arith, c.ranges.value)))
 
 pub put_field-at-requires : goal.put_field-at-requires
 put_field-at-requires c =
-    let room = fields_fit c.before.before.before.before.before.before.before.before in
+    let room = fields_fit (goal.at.put_field-at-requires c).Start in
     rw length-lent (omega arith)
 
 -- so there is once the number is written
-value-fits : (c : At-After-put_field) → let s = c.args in
+value-fits : (c : After-put_field-at) → let s = c.args in
     length s.line.now + c.put_field-at.result + length (field s.value) < length s.out.now
-value-fits c = omega (arith, c.put_field-at.ensures.long, fields_fit c.before.before.before.before.before.before.before.before)
+value-fits c = omega (arith, c.put_field-at.ensures.long, fields_fit (goal.at.After-put_field-at c).Start)
 
 pub overflow_add-at : goal.overflow_add-at
-overflow_add-at c = let room = value-fits c.before.before.before in search rules
+overflow_add-at c = let room = value-fits (goal.at.overflow_add-at c).After-put_field-at in search rules
 
 pub slice_bounds-put_field-count-2 : goal.slice_bounds-put_field-count-2
-slice_bounds-put_field-count-2 c = let room = value-fits c.before.before.before in search rules
+slice_bounds-put_field-count-2 c = let room = value-fits (goal.at.slice_bounds-put_field-count-2 c).After-put_field-at in search rules
 
 pub slice_bounds-put_field-start-2 : goal.slice_bounds-put_field-start-2
-slice_bounds-put_field-start-2 c = let room = value-fits c.before.before.before in search rules
+slice_bounds-put_field-start-2 c = let room = value-fits (goal.at.slice_bounds-put_field-start-2 c).After-put_field-at in search rules
 
 pub put_field-at-requires-2 : goal.put_field-at-requires-2
 put_field-at-requires-2 c =
-    let room = value-fits c.before.before.before.before in
+    let room = value-fits (goal.at.put_field-at-requires-2 c).After-put_field-at in
     rw length-lent (omega arith)
 
 -- and once the value is
-end_fits : (c : At-After-put_field2) → let s = c.args in
+end_fits : (c : After-put_field-at-2) → let s = c.args in
     length s.line.now + c.put_field-at.result + c.put_field-at-2.result < length s.out.now
-end_fits c = omega (arith, c.put_field-at-2.ensures.long, value-fits c.before.before.before.before)
+end_fits c = omega (arith, c.put_field-at-2.ensures.long, value-fits (goal.at.After-put_field-at-2 c).After-put_field-at)
 
 pub overflow_add-at-2 : goal.overflow_add-at-2
-overflow_add-at-2 c = let room = end_fits c.before.before.before in search rules
+overflow_add-at-2 c = let room = end_fits (goal.at.overflow_add-at-2 c).After-put_field-at-2 in search rules
 
 pub bounds-out-at : goal.bounds-out-at
-bounds-out-at c = let room = end_fits c.before.before.before in search rules
+bounds-out-at c = let room = end_fits (goal.at.bounds-out-at c).After-put_field-at-2 in search rules
 
 pub overflow_add-result : goal.overflow_add-result
-overflow_add-result c = let room = end_fits c.before.before.before in search rules
+overflow_add-result c = let room = end_fits (goal.at.overflow_add-result c).After-put_field-at-2 in search rules
 
 pub shape_of-out : goal.shape_of-out
 shape_of-out c = simp length-set (omega arith)
@@ -77,5 +66,5 @@ returns c =
     let line = overlaid-wrote s.line.now s.out.now (refl, c.copy_front.ensures ∙ rw (take-length s.line.now)) in
     let number = wrote-part line (overlaid-wrote (field s.number) _ (c.put_field-at.ensures.long, c.put_field-at.ensures.buffer)) in
     let value = wrote-part number (overlaid-wrote (field s.value) _ (c.put_field-at-2.ensures.long, c.put_field-at-2.ensures.buffer)) in
-    let all = wrote-byte line_end value (end_fits c.before.before.before) in
+    let all = wrote-byte line_end value (end_fits (goal.at.returns c).After-put_field-at-2) in
     (record { long = all.long; buffer = all.buffer })

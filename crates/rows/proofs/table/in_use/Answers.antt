@@ -3,22 +3,17 @@ use mathlib.Core.Path.{◌≡◌, sym, ◌∙◌}
 use mathlib.Core.Bool.{true}
 use Rattle.rows.specs.Table.{is_row}
 use Rattle.rows.proofs.Facts.{row_inside}
-use Rattle.rows.proofs.table.in_use.Lts as lts
-use Rattle.rows.proofs.table.in_use.Tie as tie
-use Rattle.rows.proofs.table.in_use.Reads as reads
 use Rattle.rows.proofs.table.in_use.Goals as goal
+use Rattle.rows.proofs.table.in_use.Goals.{Else-not-is_row}
 
-abbrev At-Else1 : Type 0
-At-Else1 = lts.Else1 tie.the-claims reads.Pre reads.Post
-
-row : (c : At-Else1) → is_row c.args.t.now c.args.n ≡ true
+row : (c : Else-not-is_row) → is_row c.args.t.now c.args.n ≡ true
 row c = sym c.is_row.ensures ∙ c.if-not-is_row.false
 
 pub returns-then-not-is_row : goal.returns-then-not-is_row
 returns-then-not-is_row c = rw (sym c.is_row.ensures, c.if-not-is_row.true)
 
 pub mark-requires : goal.mark-requires
-mark-requires c = (row_inside c.args.t.now c.args.n (row c.before)).1
+mark-requires c = (row_inside c.args.t.now c.args.n (row c)).1
 
 pub returns : goal.returns
-returns c = rw (row c.before.before, c.mark.ensures)
+returns c = rw (row (goal.at.returns c).Else-not-is_row, c.mark.ensures)

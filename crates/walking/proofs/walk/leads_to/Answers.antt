@@ -7,26 +7,21 @@ use Rattle.letters.specs.Letters.{letters, letter}
 use Rattle.letters.proofs.Laws.{letter-le}
 use Rattle.rows.specs.Table.{target}
 use Rattle.rows.proofs.Facts.{row_inside}
-use Rattle.walking.proofs.walk.leads_to.Lts as lts
-use Rattle.walking.proofs.walk.leads_to.Tie as tie
-use Rattle.walking.proofs.walk.leads_to.Reads as reads
 use Rattle.walking.proofs.walk.leads_to.Goals as goal
-
-abbrev At-Else1 : Type 0
-At-Else1 = lts.Else1 tie.the-claims reads.Pre reads.Post
+use Rattle.walking.proofs.walk.leads_to.Goals.{Else-x-eq-LETTERS}
 
 pub returns-then-x-eq-LETTERS : goal.returns-then-x-eq-LETTERS
 returns-then-x-eq-LETTERS c = rw (sym c.letter_of-x.ensures ∙ c.if-x-eq-LETTERS.true)
 
-small : (c : At-Else1) → letter c.args.b < letters
+small : (c : Else-x-eq-LETTERS) → letter c.args.b < letters
 small c = omega (arith, letter-le c.args.b, c.letter_of-x.ensures, c.if-x-eq-LETTERS.false)
 
 pub target-requires : goal.target-requires
 target-requires c =
-    ((row_inside c.args.t.now c.args.row c.requires).1, omega (arith, small c.before, c.letter_of-x.ensures))
+    ((row_inside c.args.t.now c.args.row c.requires).1, omega (arith, small c, c.letter_of-x.ensures))
 
 pub returns : goal.returns
 returns c =
     let args = c.args in
-    rw (lt-ltb (letter args.b) letters (small c.before.before))
+    rw (lt-ltb (letter args.b) letters (small (goal.at.returns c).Else-x-eq-LETTERS))
     (c.target.ensures ∙ ap (λ (x : ℕ). target args.t.now args.row x) c.letter_of-x.ensures)
