@@ -1,12 +1,12 @@
 // What one call of the book costs, in CPU time: how it grows with the rows in use, how it stands beside containers that
 // do the same job, and how long it takes on books that were written to be slow.
 //
-// benchmark [--note TEXT] [--plot FILE] [--only PARTS] [--brief]
+// benchmark [--plot FILE] [--only PARTS] [--brief]
 //
-// Prints docs/BENCHMARK.md but for its last chapter. In TEXT the calling script says whether an emulator runs this.
-// FILE gets the plot. PARTS are some of sizes,rivals,dense,worst: only these are measured. --brief prints a line for
-// each figure that a change of the library is judged by, with a tab before the figure. Built with BEFORE, and linked
-// with an earlier state of the library, it measures both in the same rounds and prints them side by side.
+// Prints docs/BENCHMARK.md but for its last chapter. FILE gets the plot. PARTS are some of sizes,rivals,dense,worst:
+// only these are measured. --brief prints a line for each figure that a change of the library is judged by, with a tab
+// before the figure. Built with BEFORE, and linked with an earlier state of the library, it measures both in the same
+// rounds and prints them side by side.
 //
 // All contestants do the same jobs on the same names. Where they do not answer alike, or the book refuses, the run
 // fails. The order of names is not that of bytes, by which containers go: they get a slash for each underscore, whose
@@ -834,8 +834,8 @@ std::string machine() {
     return processor + ", " + system.sysname + ' ' + system.release + ' ' + system.machine + ", g++ " + __VERSION__;
 }
 
-void print_introduction(const std::string &note) {
-    std::cout << "# What a call costs\n\nMeasured on " << machine() << ".\n" << note << R"(
+void print_introduction() {
+    std::cout << "# What a call costs\n\nMeasured on " << machine() << R"(.
 `tests/bench` writes this page, but for its last chapter.
 
 ![CPU time of check, add, load and combine against rows in use](benchmark.svg)
@@ -983,13 +983,13 @@ void print_brief(const std::vector<Contest> &contests, const std::vector<std::ve
 
 // ---- What is asked for --------------------------------------------------------------------------------------------
 struct Options {
-    std::string note, plot, only = "sizes,rivals,dense,worst";
+    std::string plot, only = "sizes,rivals,dense,worst";
     bool brief = false;
     bool wants(const std::string &part) const { return (',' + only + ',').find(',' + part + ',') != Name::npos; }
 };
 
 [[noreturn]] void explain() {
-    fail("usage: benchmark [--note TEXT] [--plot FILE] [--only PARTS] [--brief]; PARTS of sizes,rivals,dense,worst");
+    fail("usage: benchmark [--plot FILE] [--only PARTS] [--brief]; PARTS of sizes,rivals,dense,worst");
 }
 
 void expect_parts(const std::string &only) {
@@ -1000,8 +1000,7 @@ void expect_parts(const std::string &only) {
 
 Options options_of(const std::vector<std::string> &words) {
     Options options;
-    const std::map<std::string, std::string *> with_text = {
-        {"--note", &options.note}, {"--plot", &options.plot}, {"--only", &options.only}};
+    const std::map<std::string, std::string *> with_text = {{"--plot", &options.plot}, {"--only", &options.only}};
     for (std::size_t i = 0; i < words.size(); ++i) {
         if (words[i] == "--brief") options.brief = true;
         else if (with_text.count(words[i]) == 1 && i + 1 < words.size()) *with_text.at(words[i]) = words[i + 1], ++i;
@@ -1027,7 +1026,7 @@ int main(int count, char **arguments) {
     if (!options.plot.empty()) plot(options.plot, sizes);
     if (options.brief) return print_brief(sizes, slow), 0;
 
-    print_introduction(options.note);
+    print_introduction();
     if (options.wants("sizes")) print_times("One call, in nanoseconds", 0, sizes), print_checks(sizes);
     if (options.wants("worst")) print_slow(slow.back());
     if (options.wants("rivals")) print_rivals(sizes);

@@ -1,5 +1,5 @@
-// The C boundary, for script hosts, tests and benchmarks: the calls under the names of include/book.h. Each does
-// one call and packs its reply into one number, from which a host takes it again.
+// The calls under the names of include/book.h, as `exports_c` offers them to script hosts, tests and benchmarks. Each
+// does one call and packs its reply into one number, from which a host takes it again.
 #![tactic(auto)]
 
 ghost use Rattle.std.specs.Prelude.{◌≡◌, [], length};
@@ -29,23 +29,20 @@ fn packed_answer(a: Answer) -> u64
     }
 }
 
-#[unsafe(no_mangle)]
-pub extern "C" fn book_empty(table: &mut [u16]) -> u64
+pub fn book_empty(table: &mut [u16]) -> u64
     ensures { Promised table.old table.new [] [] empty (unpacked result) }
 {
     packed_answer(calls::empty(table))
 }
 
-#[unsafe(no_mangle)]
-pub extern "C" fn book_check(table: &[u16]) -> u64
+pub fn book_check(table: &[u16]) -> u64
     ensures { Promised table.now table.now [] [] check (unpacked result) }
 {
     packed_answer(calls::check(table))
 }
 
 // "ask shall also report the arcs it followed": they go to a number of the caller's.
-#[unsafe(no_mangle)]
-pub extern "C" fn book_ask(table: &[u16], mission: u32, name: &[u8], followed: &mut u32) -> u64
+pub fn book_ask(table: &[u16], mission: u32, name: &[u8], followed: &mut u32) -> u64
     ensures { Promised table.now table.now [] [] (ask mission name.now) (unpacked_with followed.new result) }
 {
     let reply = ask_reply(calls::ask(table, mission, name));
@@ -55,8 +52,7 @@ pub extern "C" fn book_ask(table: &[u16], mission: u32, name: &[u8], followed: &
 
 // "The number of letters that may follow is also answered": here it is the value, and the letters go
 // to a number of the caller's.
-#[unsafe(no_mangle)]
-pub extern "C" fn book_next(table: &[u16], mission: u32, prefix: &[u8], letters: &mut u64) -> u64
+pub fn book_next(table: &[u16], mission: u32, prefix: &[u8], letters: &mut u64) -> u64
     ensures { Promised table.now table.now [] [] (next mission prefix.now) (unpacked_next letters.new result) }
 {
     let reply = next_reply(calls::next(table, mission, prefix));
@@ -64,83 +60,67 @@ pub extern "C" fn book_next(table: &[u16], mission: u32, prefix: &[u8], letters:
     packed(reply.number, reply.second)
 }
 
-#[unsafe(no_mangle)]
-pub extern "C" fn book_add(table: &mut [u16], mission: u32, name: &[u8]) -> u64
+pub fn book_add(table: &mut [u16], mission: u32, name: &[u8]) -> u64
     ensures { Promised table.old table.new [] [] (add mission name.now) (unpacked result) }
 {
     packed_answer(changing::add(table, mission, name))
 }
 
-#[unsafe(no_mangle)]
-pub extern "C" fn book_remove(table: &mut [u16], mission: u32, name: &[u8]) -> u64
+pub fn book_remove(table: &mut [u16], mission: u32, name: &[u8]) -> u64
     ensures { Promised table.old table.new [] [] (remove mission name.now) (unpacked result) }
 {
     packed_answer(changing::remove(table, mission, name))
 }
 
-#[unsafe(no_mangle)]
-pub extern "C" fn book_clear(table: &mut [u16], mission: u32) -> u64
+pub fn book_clear(table: &mut [u16], mission: u32) -> u64
     ensures { Promised table.old table.new [] [] (clear mission) (unpacked result) }
 {
     packed_answer(changing::clear(table, mission))
 }
 
-#[unsafe(no_mangle)]
-pub extern "C" fn book_load(table: &mut [u16], mission: u32, list: &[u8]) -> u64
+pub fn book_load(table: &mut [u16], mission: u32, list: &[u8]) -> u64
     ensures { Promised table.old table.new [] [] (load mission list.now) (unpacked result) }
 {
     packed_answer(filling::load(table, mission, list))
 }
 
-#[unsafe(no_mangle)]
-pub extern "C" fn book_load_two<'a>(
-    table: &mut [u16],
-    mission: u32,
-    first: &'a [u8],
-    second: &'a [u8],
-) -> u64
+pub fn book_load_two<'a>(table: &mut [u16], mission: u32, first: &'a [u8], second: &'a [u8]) -> u64
     ensures { Promised table.old table.new [] [] (load_two mission first.now second.now) (unpacked result) }
 {
     packed_answer(filling::load_two(table, mission, first, second))
 }
 
-#[unsafe(no_mangle)]
-pub extern "C" fn book_combine(table: &mut [u16], operation: u32, a: u32, b: u32, c: u32) -> u64
+pub fn book_combine(table: &mut [u16], operation: u32, a: u32, b: u32, c: u32) -> u64
     ensures { Promised table.old table.new [] [] (combine operation a b c) (unpacked result) }
 {
     packed_answer(filling::combine(table, operation, a, b, c))
 }
 
-#[unsafe(no_mangle)]
-pub extern "C" fn book_count(table: &[u16], mission: u32) -> u64
+pub fn book_count(table: &[u16], mission: u32) -> u64
     ensures { Promised table.now table.now [] [] (count mission) (unpacked result) }
 {
     packed_answer(ranking::count(table, mission))
 }
 
-#[unsafe(no_mangle)]
-pub extern "C" fn book_rank(table: &[u16], mission: u32, name: &[u8]) -> u64
+pub fn book_rank(table: &[u16], mission: u32, name: &[u8]) -> u64
     ensures { Promised table.now table.now [] [] (rank mission name.now) (unpacked result) }
 {
     packed_answer(ranking::rank(table, mission, name))
 }
 
-#[unsafe(no_mangle)]
-pub extern "C" fn book_nth(table: &[u16], mission: u32, n: u32, buffer: &mut [u8]) -> u64
+pub fn book_nth(table: &[u16], mission: u32, n: u32, buffer: &mut [u8]) -> u64
     ensures { Promised table.now table.now buffer.old buffer.new (nth mission n (length buffer.old)) (unpacked result) }
 {
     packed_answer(ranking::nth(table, mission, n, buffer))
 }
 
-#[unsafe(no_mangle)]
-pub extern "C" fn book_write(table: &[u16], mission: u32, buffer: &mut [u8]) -> u64
+pub fn book_write(table: &[u16], mission: u32, buffer: &mut [u8]) -> u64
     ensures { Promised table.now table.now buffer.old buffer.new (write mission (length buffer.old)) (unpacked result) }
 {
     packed_answer(ranking::write(table, mission, buffer))
 }
 
-#[unsafe(no_mangle)]
-pub extern "C" fn book_used(table: &[u16]) -> u64
+pub fn book_used(table: &[u16]) -> u64
     ensures { Promised table.now table.now [] [] used (unpacked result) }
 {
     packed_answer(calls::used(table))
