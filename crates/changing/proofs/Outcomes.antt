@@ -30,7 +30,7 @@ use Rattle.rows.proofs.Rules.{sound-facts, sound-length}
 use Rattle.rows.proofs.Facts.{no_row}
 use Rattle.rows.proofs.Words.{words-plain, words-none}
 use Rattle.rows.proofs.Growth.{grown-self}
-use Rattle.rows.proofs.Books.{list-names, no_start, no-empty, start-names}
+use Rattle.rows.proofs.Books.{list-names, no_start, no_empty, start-names}
 use Rattle.growing.specs.Growing.{MadeRow, MadeFull}
 use Rattle.settling.specs.Settled.{fits, Startable, Settles, Changed}
 use Rattle.settling.proofs.Settling.{no-row-startable, clear-fits, settled}
@@ -137,7 +137,7 @@ module _ (t : Table) (s : sound t ≡ true) (m : ℕ) (h : m < missions) where
 
       module _ (most n : ℕ) (made : MadeRow most t u (with_name on (word_of name) (words t (start t m))) n) where
         pub path-startable : Startable u n
-        path-startable = record { named = made.named; no-empty = rw made.has (with-name-no-empty ∙ no-empty t (sound-facts t s).tidy m h) }
+        path-startable = record { named = made.named; no_empty = rw made.has (with-name-no-empty ∙ no_empty t (sound-facts t s).tidy m h) }
           where
             with-name-no-empty : member [] (with_name on (word_of name) (words t (start t m))) ≡ member [] (words t (start t m))
             with-name-no-empty = rw (word-rest name (name-parts name named).0) (with-name-empty on _ _ _)

@@ -80,7 +80,7 @@ module _ (t : Table) (s : sound t ≡ true) (m : ℕ) (h : m < missions) (empty 
     -- a row was made, and settled
     module _ (u : Table) (most r : ℕ) (made : MadeRow most t u l r) (names : member [] l ≡ false) where
       pub row-startable : Startable u r
-      row-startable = record { named = made.named; no-empty = rw made.has names }
+      row-startable = record { named = made.named; no_empty = rw made.has names }
 
       module _ (after : Table) (done : Bool) (settles : Settles u after m r done) where
         pub row-changed : Changed t after m l done

@@ -34,7 +34,7 @@ use Rattle.rows.specs.Tidy.{Tidy}
 use Rattle.rows.specs.Reach.{swept}
 use Rattle.rows.proofs.Rules.{sound-facts, sound-length}
 use Rattle.rows.proofs.Facts.{named-inside}
-use Rattle.rows.proofs.Books.{list-names, no_start, no-empty, row-names, start-names}
+use Rattle.rows.proofs.Books.{list-names, no_start, no_empty, row-names, start-names}
 use Rattle.growing.specs.Growing.{MadeRow, MadeFull}
 use Rattle.settling.specs.Settled.{fits, Startable, Settles}
 use Rattle.answers.specs.declared.cases.Refusal.TheVariants.{Operation, NotEmpty, NoRoom}
@@ -190,7 +190,7 @@ module _ (t : Table) (op a b c : ℕ) (fine : Combinable t op a b c) where
         sound = fine.sound;
         mission = third;
         empty = empty;
-        names = member-combined op [] _ _ ∙ rw (no-empty t tidy a first, no-empty t tidy b second) (chosen_none op);
+        names = member-combined op [] _ _ ∙ rw (no_empty t tidy a first, no_empty t tidy b second) (chosen_none op);
         nothing = none_or_some (λ l. flag (has_names l)) (λ w l. omega arith) result;
         says = says;
       }

@@ -86,14 +86,14 @@ module _ (t u : Table) (by : Renumbered t u) where
 
   -- every row of u is `to` of one of t
   pub each_row : (P : ℕ → Type 0) → ((r : ℕ) → is_row t r ≡ true → P (by.to r)) → (s : ℕ) → is_row u s ≡ true → P s
-  each_row P f s row = rw (by.to-from s row) at (f (by.from s) (by.from_row s row))
+  each_row P f s row = rw (by.to_from s row) at (f (by.from s) (by.from_row s row))
 
   -- the way back
   abbrev home : ℕ → ℕ
   home n = cond (is_row u n) (by.from n) n
 
   home-to : (n : ℕ) → home (to n) ≡ n
-  home-to n = by-test (is_row t n) (λ row. rw (by.to_row n row) (by.from-to n row)) (λ out. rw (to-is-row n, out) (by.others n out))
+  home-to n = by-test (is_row t n) (λ row. rw (by.to_row n row) (by.from_to n row)) (λ out. rw (to-is-row n, out) (by.others n out))
 
   pub to_one : (m n : ℕ) → by.to m ≡ by.to n → m ≡ n
   to_one m n e = sym (home-to m) ∙ (ap home e ∙ home-to n)
@@ -106,8 +106,8 @@ module _ (t u : Table) (by : Renumbered t u) where
         long = sym by.long;
         to_row = each_row (λ s. is_row t (home s) ≡ true) (λ r row. rw (home-to r) row);
         from_row = by.to_row;
-        from-to = λ s row. rw row (by.to-from s row);
-        to-from = λ r row. home-to r;
+        from_to = λ s row. rw row (by.to_from s row);
+        to_from = λ r row. home-to r;
         others = λ n out. rw out;
         starts = λ m h. rw (by.starts m h) (sym (home-to (start t m)));
         rest = λ i low high. sym (by.rest i low high);
@@ -127,8 +127,8 @@ on-renumbered t u v by on =
       long = on.long ∙ by.long;
       to_row = λ r row. on.to_row _ (by.to_row r row);
       from_row = λ r row. by.from_row _ (on.from_row r row);
-      from-to = λ r row. rw (on.from-to (by.to r) (by.to_row r row)) (by.from-to r row);
-      to-from = λ r row. rw (by.to-from (on.from r) (on.from_row r row)) (on.to-from r row);
+      from_to = λ r row. rw (on.from_to (by.to r) (by.to_row r row)) (by.from_to r row);
+      to_from = λ r row. rw (by.to_from (on.from r) (on.from_row r row)) (on.to_from r row);
       others = λ n out. rw (by.others n out) (on.others n (same_row t u by n ∙ out));
       starts = λ m h. on.starts m h ∙ ap on.to (by.starts m h);
       rest = λ i low high. on.rest i low high ∙ by.rest i low high;

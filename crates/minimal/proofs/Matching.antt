@@ -200,8 +200,8 @@ matched-renumbered t u sound other long same =
       long = long;
       to_row = λ r row. matched-row t u tidy neat r _ (there.forth r row) row;
       from_row = λ r row. matched-row u t neat tidy r _ (home.forth r row) row;
-      from-to = λ r row. sym (home.only _ r (back (there.forth r row)));
-      to-from = λ r row. sym (there.only _ r (back (home.forth r row)));
+      from_to = λ r row. sym (home.only _ r (back (there.forth r row)));
+      to_from = λ r row. sym (there.only _ r (back (home.forth r row)));
       others = there.others;
       starts = λ m h.
           there.only (start t m) (start u m)

@@ -13,7 +13,7 @@ use Rattle.sets.specs.Sets.{Words, member}
 use Rattle.sets.specs.Residuals.{need}
 use Rattle.sets.specs.Automata.{size, Theorem5, Minimal}
 use Rattle.sets.proofs.Below.{tests_agree}
-use Rattle.sets.proofs.Served.{none-fewer}
+use Rattle.sets.proofs.Served.{none_fewer}
 use Rattle.model.specs.Lists.{missions, SixteenSets, list_of, may_follow}
 use Rattle.model.specs.Prefixes.{how_far, LongestPrefix}
 use Rattle.model.proofs.Prefixes.{how-far-longest}
@@ -78,7 +78,7 @@ sound-fewest t e =
     record {
       once = automaton-once t;
       has = automaton-languages t (sound-facts t e).tidy;
-      none-fewer = λ B has. rw (book-size t, used-need t e) (none-fewer B (lists t) (lists-plain t) has);
+      none_fewer = λ B has. rw (book-size t, used-need t e) (none_fewer B (lists t) (lists-plain t) has);
     }
 
 -- The automaton of a sound book is what Theorem 5 of source document 002 asks for: it has no cycle, every state is reached from a start, from
@@ -87,7 +87,7 @@ pub sound-theorem-5 : (t : Table) → sound t ≡ true → Theorem5 (automaton t
 sound-theorem-5 t e =
     let facts = sound-facts t e in
     record {
-      no-cycle = automaton-acyclic t facts.tidy;
+      no_cycle = automaton-acyclic t facts.tidy;
       reached = λ r state. automaton-reached t facts.tidy r (sound-reached t facts r (state-used t r state));
       useful = automaton-useful t facts.tidy;
       different = automaton-different t facts.tidy;
@@ -102,8 +102,8 @@ renumbered-self t =
       long = refl;
       to_row = λ r e. e;
       from_row = λ r e. e;
-      from-to = λ r e. refl;
-      to-from = λ r e. refl;
+      from_to = λ r e. refl;
+      to_from = λ r e. refl;
       others = λ n out. refl;
       starts = λ m h. refl;
       rest = λ i m h. refl;

@@ -12,8 +12,8 @@ pub record Renumbered (t u : Table) : Type 0 where
   -- state rows go to state rows, one to one
   pub to_row : (r : ℕ) → is_row t r ≡ true → is_row u (to r) ≡ true
   pub from_row : (r : ℕ) → is_row u r ≡ true → is_row t (from r) ≡ true
-  pub from-to : (r : ℕ) → is_row t r ≡ true → from (to r) ≡ r
-  pub to-from : (r : ℕ) → is_row u r ≡ true → to (from r) ≡ r
+  pub from_to : (r : ℕ) → is_row t r ≡ true → from (to r) ≡ r
+  pub to_from : (r : ℕ) → is_row u r ≡ true → to (from r) ≡ r
   -- what is no row stays as it is
   pub others : (n : ℕ) → is_row t n ≡ false → to n ≡ n
   -- the head

@@ -52,7 +52,7 @@ begun-further w u l n b = record { name = b.name; listed = rw (b.listed, or-true
 -- "the longest prefix of the given name that some name on the list begins with"
 pub how-far-longest : (w : Word) (l : Words) → LongestPrefix w l (how_far w l)
 unfolding how_far member
-how-far-longest w l = record { begun = begun l; none-longer = longer l }
+how-far-longest w l = record { begun = begun l; none_longer = longer l }
   where
     begun : (l : Words) → 0 < how_far w l → Begun w l (how_far w l)
     begun [] some = absurd (omega arith)

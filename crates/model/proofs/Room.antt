@@ -197,14 +197,14 @@ room-exact b c sets fits change only n few = go (ltb b.room (need (rule b c).don
         let eleven : run b c ≡ refused 11 b = rw (only-room b c fits change only, e) in
         record {
           refused_over = λ d. more;
-          over-refused = λ h. ap (λ (o : Outcome). o.number) eleven;
-          within-done = λ h. absurd (omega arith);
+          over_refused = λ h. ap (λ (o : Outcome). o.number) eleven;
+          within_done = λ h. absurd (omega arith);
         }
     go false e =
         let most : n ≤ b.room = rw counted at (ltb-false b.room (need (rule b c).done.lists) e) in
         let done : run b c ≡ (rule b c).done = rw (only-room b c fits change only, e) in
         record {
           refused_over = λ d. absurd (omega (arith, ap (λ (o : Outcome). o.number) done, done-number b c));
-          over-refused = λ h. absurd (omega arith);
-          within-done = λ h. done;
+          over_refused = λ h. absurd (omega arith);
+          within_done = λ h. done;
         }

@@ -25,4 +25,4 @@ pub record Begun (w : Word) (l : Words) (n : ℕ) : Type 0 where
 -- the same sentence, said of a number: some name begins with that many letters of the word, and none with more
 pub record LongestPrefix (w : Word) (l : Words) (n : ℕ) : Type 0 where
   pub begun : 0 < n → Begun w l n
-  pub none-longer : (k : ℕ) → Begun w l k → k ≤ n
+  pub none_longer : (k : ℕ) → Begun w l k → k ≤ n

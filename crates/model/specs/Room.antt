@@ -13,5 +13,5 @@ OnlyRoom b c = Each (λ r. r.number ≢ 11 → r.applies ≡ false) (rule b c).r
 -- else it is done
 pub record RoomExact (b : Book) (c : Call) (n : ℕ) : Type 0 where
   pub refused_over : (run b c).number ≡ 11 → b.room < n
-  pub over-refused : b.room < n → (run b c).number ≡ 11
-  pub within-done : n ≤ b.room → run b c ≡ (rule b c).done
+  pub over_refused : b.room < n → (run b c).number ≡ 11
+  pub within_done : n ≤ b.room → run b c ≡ (rule b c).done

@@ -37,6 +37,6 @@ room-decides t after before filled call reply s p change only n few =
     let number = ap (λ (r : Reply). r.number) k.said in
     record {
       refused_over = λ e. exact.refused_over (rw number at e);
-      over-refused = λ h. number ∙ exact.over-refused h;
-      within-done = λ h. (number ∙ (ap (λ (o : Outcome). o.number) (exact.within-done h) ∙ done-number (book_of t) call), k.names ∙ ap (λ (o : Outcome). o.lists) (exact.within-done h));
+      over_refused = λ h. number ∙ exact.over_refused h;
+      within_done = λ h. (number ∙ (ap (λ (o : Outcome). o.number) (exact.within_done h) ∙ done-number (book_of t) call), k.names ∙ ap (λ (o : Outcome). o.lists) (exact.within_done h));
     }

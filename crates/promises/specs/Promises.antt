@@ -96,5 +96,5 @@ pub record Tight (t u v : Table) (before x y : List ℕ) (call : Call) (r s : Re
 -- Demand 3: "a change is refused for room exactly when the fewest states needed are more than the room", n for the lists that it would leave.
 pub record RoomDecides (t after : Table) (call : Call) (reply : Reply) (n : ℕ) : Type 0 where
   pub refused_over : reply.number ≡ 11 → room t < n
-  pub over-refused : room t < n → reply.number ≡ 11
-  pub within-done : n ≤ room t → (reply.number ≡ 0) × (lists after ≡ (rule (book_of t) call).done.lists)
+  pub over_refused : room t < n → reply.number ≡ 11
+  pub within_done : n ≤ room t → (reply.number ≡ 0) × (lists after ≡ (rule (book_of t) call).done.lists)

@@ -68,9 +68,9 @@ module _ (t : Table) where
     ask-plain m h w s = rw (list-names m h) (sym (member-words t tidy w s (start t m) (start-named m h)))
 
     -- "The empty word is no name"
-    pub no-empty : (m : ℕ) → m < missions → member [] (names t m) ≡ false
+    pub no_empty : (m : ℕ) → m < missions → member [] (names t m) ≡ false
     unfolding member
-    no-empty m h =
+    no_empty m h =
         elim (named-cases (start-named m h)) [
           | inl u ↦ empty-word t tidy (start t m) u ∙ rw (tidy.starts m h u.positive).1
           | inr e ↦ rw (words-none t (start t m) (no_row t (start t m) e))
@@ -80,7 +80,7 @@ module _ (t : Table) where
     lists-names = each-list _ (λ m h. members-each _ (names t m) (name m h))
       where
         name : (m : ℕ) → m < missions → (w : Word) → member w (names t m) ≡ true → is_name (bytes_of w) ≡ true
-        name m h [] i = cc (no-empty m h)
+        name m h [] i = cc (no_empty m h)
         name m h (x ∷ w) i =
             name-bytes (x ∷ w) (omega arith) (member-each _ (names t m) (words-short t (start t m)) (x ∷ w) i)
             (member-each Spelled (names t m) (words-plain t (start t m)).spelled (x ∷ w) i)

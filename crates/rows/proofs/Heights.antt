@@ -72,7 +72,7 @@ module _ (t : Table) (tidy : Tidy t) where
                 let (x, a, e) = highest-arc r u h in
                 let rest = below x a in
                 record {
-                  none-longer = λ w s. accepted-short w s r u;
+                  none_longer = λ w s. accepted-short w s r u;
                   word = x ∷ rest.word;
                   spelled = (a.letter, rest.spelled);
                   accepted = accepts-step t r (used-row u) x rest.word ∙ rest.accepted;
@@ -80,7 +80,7 @@ module _ (t : Table) (tidy : Tidy t) where
                 }
             | no h ↦
                 record {
-                  none-longer = λ w s. accepted-short w s r u;
+                  none_longer = λ w s. accepted-short w s r u;
                   word = [];
                   spelled = tt;
                   accepted = accepts-empty t r ∙ rw (used-row u, eq-eqb (mark t r) 2 (lowest-ends r u (omega arith)));

@@ -27,7 +27,7 @@ followed t w n = length w - length (walk_from t w n).left
 
 -- "Number 1 is the height: the length of the longest word accepted from here.": n is the length of the longest word accepted from the row
 pub record Longest (t : Table) (r n : ℕ) : Type 0 where
-  pub none-longer : (w : Word) → Spelled w → accepts t w r ≡ true → length w ≤ n
+  pub none_longer : (w : Word) → Spelled w → accepts t w r ≡ true → length w ≤ n
   pub word : Word
   pub spelled : Spelled word
   pub accepted : accepts t word r ≡ true

@@ -14,7 +14,7 @@ use Rattle.sets.proofs.Membership.{In}
 use Rattle.sets.proofs.Pigeons.{pigeons}
 use Rattle.sets.proofs.States.{states-apart}
 use Rattle.sets.proofs.Machine.{machine, machine-languages, once-below, length-below}
-use Rattle.sets.proofs.Served.{none-fewer}
+use Rattle.sets.proofs.Served.{none_fewer}
 
 pub need-fewest : (ls : List Words) → Each Plain ls → Fewest ls (need ls)
 unfolding need
@@ -26,14 +26,14 @@ need-fewest ls plain =
           record {
             once = once-below (length (states ls));
             has = machine-languages ls;
-            none-fewer = λ A has. rw counted (none-fewer A ls plain has);
+            none_fewer = λ A has. rw counted (none_fewer A ls plain has);
           };
       counted = counted;
     }
 
 pub fewest-one : {ls : List Words} {m n : ℕ} → Fewest ls m → Fewest ls n → m ≡ n
 fewest-one f g =
-    omega (arith, f.minimal.none-fewer g.some g.minimal.has, g.minimal.none-fewer f.some f.minimal.has, f.counted, g.counted)
+    omega (arith, f.minimal.none_fewer g.some g.minimal.has, g.minimal.none_fewer f.some f.minimal.has, f.counted, g.counted)
 
 pub need-within : (ls ms : List Words) → ((k : Words) → In k (states ls) → In k (states ms)) → need ls ≤ need ms
 unfolding need

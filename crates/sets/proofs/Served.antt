@@ -66,5 +66,5 @@ module _ (A : Automaton) where
     state-place : (k : Words) → In k (states ls) → (s : ℕ) × In s A.states × Serves A k s
     state-place k i = let (s, e, p) = states-all Served after-served ls list-served i in (s, listed_in s A.states e, p)
 
-    pub none-fewer : length (states ls) ≤ size A
-    none-fewer = pigeons (Serves A) serves-one (states ls) A.states (states-apart ls) state-place
+    pub none_fewer : length (states ls) ≤ size A
+    none_fewer = pigeons (Serves A) serves-one (states ls) A.states (states-apart ls) state-place

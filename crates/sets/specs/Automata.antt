@@ -65,7 +65,7 @@ equivalent A s t = (w : Word) → Spelled w → in_language A w s ≡ in_languag
 -- Theorem 5, for several starts: "every state is reachable from the starting state, from every state a final state is reachable and there are
 -- no different equivalent states"; and the automaton is acyclic
 pub record Theorem5 (A : Automaton) : Type 0 where
-  pub no-cycle : acyclic A
+  pub no_cycle : acyclic A
   pub reached : (s : ℕ) → is_state A s ≡ true → (m : ℕ) × (m < length A.starts) × reachable A (get_or A.starts m 0) s
   pub useful : (s : ℕ) → is_state A s ≡ true → (f : ℕ) × reachable A s f × (A.final f ≡ true)
   pub different : (s t : ℕ) → is_state A s ≡ true → is_state A t ≡ true → equivalent A s t → s ≡ t
@@ -74,7 +74,7 @@ pub record Theorem5 (A : Automaton) : Type 0 where
 pub record Minimal (A : Automaton) (ls : List Words) : Type 0 where
   pub once : Once A.states
   pub has : Languages A ls
-  pub none-fewer : (B : Automaton) → Languages B ls → size A ≤ size B
+  pub none_fewer : (B : Automaton) → Languages B ls → size A ≤ size B
 
 -- n is the number of states of a minimal automaton with these languages
 pub record Fewest (ls : List Words) (n : ℕ) : Type 0 where

@@ -49,7 +49,7 @@ use Rattle.settling.proofs.Swept.{only-length, swept-grown, swept-lists, swept-s
 
 pub no-row-startable : (t : Table) → Startable t 0
 unfolding member
-no-row-startable t = record { named = λ h. absurd (omega arith); no-empty = rw (words-none t 0 refl) }
+no-row-startable t = record { named = λ h. absurd (omega arith); no_empty = rw (words-none t 0 refl) }
 
 module _ (t : Table) (m r : ℕ) (below : m < missions) where
   start-long : length (with_start t m r) ≡ length t
@@ -106,7 +106,7 @@ module _ (t : Table) (m r : ℕ) (tidy : Tidy t) (below : m < missions) where
             | yes e ↦
                 rw (e, start-same) (λ some.
                 let p = startable.named some in
-                fine r p (mark-word t tidy r p ∙ rw startable.no-empty))
+                fine r p (mark-word t tidy r p ∙ rw startable.no_empty))
             | no e ↦
                 rw (get_or-set_other t m k r 0 e) (λ some.
                 let (p, one) = tidy.starts k h some in

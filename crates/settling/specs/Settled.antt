@@ -17,7 +17,7 @@ with_start t m r = set t m r
 -- 0, or a row whose words are names: "The empty word is no name"
 pub record Startable (t : Table) (r : ℕ) : Type 0 where
   pub named : Named t r
-  pub no-empty : member [] (words t r) ≡ false
+  pub no_empty : member [] (words t r) ≡ false
 
 -- the sixteen lists, with l for mission m, do not "need more states than room"
 abbrev pub fits : Table → ℕ → Words → Bool
