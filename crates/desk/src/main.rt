@@ -1,8 +1,10 @@
 // The desk program: reads standard input, takes step after step on a book of room 486, and writes what each step
-// prints. All that can be got wrong but reading and writing is in the crate `lines`.
+// prints. What a step does is in the crate `lines`; here is proved that all steps together write what 01 says.
 #![tactic(auto)]
 
-ghost use Rattle.std.specs.Prelude.{◌≤◌, length, IfOk};
+ghost use Rattle.std.specs.Prelude.{◌≤◌, ◌<◌, length, take, IfOk, OnOk, IfSome};
+ghost use Rattle.std.specs.Io.KnownBytes.{Appends, Consumes, IsAtEnd};
+ghost use Rattle.lines.specs.Sessions.{prints};
 
 use lines::{INPUT, NUMBERS, OUT, beginning, step};
 use std::io;
@@ -10,7 +12,9 @@ use std::io::{Read, Write};
 
 // Reads until the buffer is full or the input ends, and says how many bytes of the buffer's front were read.
 fn read_full<R: Read>(from: &mut R, buffer: &mut [u8]) -> io::Result<usize>
-    ensures { IfOk result (λ n. n ≤ length buffer.new) }
+    ensures inside { IfOk result (λ n. n ≤ length buffer.new) }
+    ensures front { IfOk result (λ n. Consumes (R.remaining from.old) (R.remaining from.new) (take n buffer.new)) }
+    ensures end { IfOk result (λ n. n < length buffer.new → IsAtEnd (R.remaining from.new)) }
 {
     let mut long = 0;
     while long < buffer.len() {
@@ -23,7 +27,10 @@ fn read_full<R: Read>(from: &mut R, buffer: &mut [u8]) -> io::Result<usize>
     Ok(long)
 }
 
-fn run<R: Read, W: Write>(from: &mut R, to: &mut W) -> io::Result<()> {
+// Writes what the desk program prints of all that can be read.
+fn run<R: Read, W: Write>(from: &mut R, to: &mut W) -> io::Result<()>
+    ensures { OnOk result (IfSome (R.remaining from.old) (λ input. Appends (W.contents to.old) (W.contents to.new) (prints input))) }
+{
     let mut input = [0u8; INPUT];
     let long = read_full(from, &mut input)?;
     let mut t = [0u16; NUMBERS];
