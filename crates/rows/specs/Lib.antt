@@ -7,3 +7,4 @@ pub mod Tidy
 pub mod Reach
 pub mod Growth
 pub mod Skips
+pub mod Arcs

@@ -4,10 +4,13 @@
 // rows, and `rules`, which asks whether a row is zeros, know besides. The calls look into no row.
 #![tactic(auto)]
 
+mod arcs;
 mod fill;
 mod skips;
+mod steps;
 mod table;
 
+pub use arcs::{Arcs, arcs_of};
 pub use fill::fill_with_zeros;
 pub use skips::{next_arc, past_zeros};
 pub use table::{

@@ -14,15 +14,13 @@ fn eight_zeros(s: &[u16], a: usize) -> bool
     ensures { result ≡ eight_zeros s.now a }
 {
     let mut all = 0u16;
-    let mut i = 0;
-    while i < 8 {
-        all |= s[a + i];
-        i += 1;
+    for n in &s[a..a + 8] {
+        all |= *n;
     }
     all == 0
 }
 
-// Past zeros, eight at a time.
+// Past zeros, eight at a time. A while: a range with steps has no plainer end where fewer than eight are left.
 fn past_eights(s: &[u16], a: usize, end: usize) -> usize
     requires { (a ≤ end) × (end ≤ length s.now) }
     ensures { SkippedEights s.now a end result }
@@ -42,14 +40,12 @@ fn past_ones(s: &[u16], a: usize, end: usize) -> usize
     requires { (a ≤ end) × (end ≤ length s.now) }
     ensures { Skipped s.now a end result }
 {
-    let mut e = a;
-    while e < end {
+    for e in a..end {
         if s[e] != 0 {
             return e;
         }
-        e += 1;
     }
-    e
+    end
 }
 
 // The first place from a on, and before the end, whose number is not 0; or the end.

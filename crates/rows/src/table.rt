@@ -1,7 +1,6 @@
 // The table's length and room, a row's numbers by name, and the rows in use.
 ghost use Rattle.std.specs.Prelude.{◌<◌, max, ◌≡◌, length};
 ghost use Rattle.letters.specs.Letters.{letters};
-ghost use Rattle.letters.specs.LetterSet.{flag};
 ghost use Rattle.rows.specs.Table.{row_count, length_ok, room, is_row, start, mark, height, target, row_targets, number39, in_use, used_rows};
 
 use letters::LETTERS;
@@ -128,23 +127,15 @@ pub fn in_use(t: &[u16], n: usize) -> bool
     0 < mark(t, n)
 }
 
-// 1 if the row is in use, else 0.
-fn in_use_count(t: &[u16], r: usize) -> usize
-    ensures { result ≡ flag (in_use t.now r) }
-{
-    if in_use(t, r) { 1 } else { 0 }
-}
-
 // How many rows are in use.
 pub fn used_rows(t: &[u16]) -> usize
     ensures { result ≡ used_rows t.now }
 {
-    let k = row_count(t);
     let mut n = 0;
-    let mut r = 0;
-    while r < k {
-        n += in_use_count(t, r);
-        r += 1;
+    for r in 0..row_count(t) {
+        if in_use(t, r) {
+            n += 1;
+        }
     }
     n
 }

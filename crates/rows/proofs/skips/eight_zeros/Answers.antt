@@ -1,24 +1,25 @@
-use Prim.Native.Nat.{◌+◌}
+use Prim.Native.Nat.{◌+◌, ◌<◌}
 use mathlib.Core.Path.{◌≡◌, refl, ◌∙◌}
 use native.Mathlib.Numerals.{add-one}
 use lib.ListN.{get_or}
 use Rattle.letters.specs.Below.{all_below}
 use Rattle.rows.proofs.Skipping.{or-none}
-use native.Mathlib.Omega.{arith}
+use borrow.Author.Rules.{rules}
+use Rattle.std.specs.List.{between}
+use Rattle.std.proofs.lemmas.List.Edits.{get_or-between}
 use Rattle.rows.proofs.skips.eight_zeros.Goals as goal
 
-pub loop-i-init : goal.loop-i-init
+pub loop-n-init : goal.loop-n-init
 unfolding all_below
-loop-i-init c = (omega arith, refl)
+loop-n-init c = refl
 
-pub loop-i-preserved : goal.loop-i-preserved
+pub loop-n-preserved : goal.loop-n-preserved
 unfolding all_below
-loop-i-preserved c =
-    let l = c.loop-i in
-    let args = c.args in
-    (omega arith, rw add-one (or-none l.all (get_or args.s.now (args.a + l.i) 0) ∙ rw l.invariant.1))
-
-pub returns : goal.returns
-returns c =
-    let all : c.loop-i.i ≡ 8 = omega arith in
-    rw all at c.loop-i.invariant.1
+loop-n-preserved c =
+    let l = c.loop-n in
+    let s = c.args.s.now in
+    let a = c.args.a in
+    let i = l.n-index in
+    let inside : a + i < a + 8 = search rules in
+    let here : get_or (between a (a + 8) s) i 0 ≡ get_or s (a + i) 0 = get_or-between s a (a + 8) i 0 inside in
+    rw (here, add-one) (or-none l.all (get_or s (a + i) 0) ∙ rw l.invariant refl)
