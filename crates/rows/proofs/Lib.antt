@@ -7,6 +7,7 @@ pub mod Heights
 pub mod Words
 pub mod Reach
 pub mod Books
+pub mod Stepping
 pub mod Zeros
 pub mod Growth
 pub mod Skipping
