@@ -2,10 +2,10 @@
 -- number, how many of them stand before a word, and the n-th of them go letter by letter: those that begin with a lower letter all stand
 -- before, those that begin with a higher one do not, and the letters without a target may be skipped. Where a row is counted and its words are
 -- no more than the array counts, its number is exact, and so are those of its targets. Assumes nothing.
-use Prim.Native.Nat.{ℕ, zero, suc, ◌+◌, ◌≤◌, ◌<◌, min}
+use Prim.Native.Nat.{ℕ, zero, suc, ◌+◌, ◌≤◌, ◌<◌}
 use native.Mathlib.Omega.{arith}
 use native.Mathlib.Decide.{ℕ_discrete}
-use mathlib.Core.Path.{◌≡◌, refl, ◌∙◌}
+use mathlib.Core.Path.{◌≡◌, refl, ap, ◌∙◌}
 use mathlib.Core.Bool.{Bool, true, false, cond}
 use mathlib.Core.List.{List, [], ◌∷◌, ◌++◌}
 use lib.ListN.{length, length-append, length-map}
@@ -26,6 +26,8 @@ use Rattle.rows.specs.Walk.{has_arc}
 use Rattle.rows.specs.Words.{behind, words}
 use Rattle.rows.specs.Tidy.{Used, Arc, Tidy}
 use Rattle.rows.specs.Skips.{NextArc}
+use Rattle.rows.specs.Arcs.{Goes}
+use Rattle.rows.specs.declared.arcs.Arcs.{Arcs}
 use Rattle.rows.proofs.Facts.{no_row, used-row, named-inside}
 use Rattle.rows.proofs.Words.{words_row, words-none}
 use Rattle.counting.specs.Ahead.{sum_by, ahead_by, ahead}
@@ -84,16 +86,24 @@ nth-behind x [] n h = absurd (omega arith)
 nth-behind x (w ∷ l) zero h = refl
 nth-behind x (w ∷ l) (suc n) h = nth-behind x l n (omega arith)
 
-module _ (own : ℕ) (given : ℕ → ℕ) (none : given 0 ≡ 0) {t : Table} {r : ℕ} where
-  -- as far as letter x, the letters without a target add nothing
-  pub ahead-skip : {y e : ℕ} → NextArc t r y e → (x : ℕ) → y ≤ x → sum_by own given t r (min e x) ≡ sum_by own given t r y
-  ahead-skip {y} {e} a x h =
-      rw (total-skip (λ z. given (target t r z)) y (min e x) (omega arith) (λ z low below. rw (a.none z low (omega arith)) none))
+-- before the first letter there is only the own number
+pub ahead_none : (own : ℕ) (given : ℕ → ℕ) (t : Table) (r : ℕ) {x : ℕ} → x ≡ 0 → sum_by own given t r x ≡ own
+unfolding total
+ahead_none own given t r e = rw e (omega arith)
 
-  pub ahead_more : {y e : ℕ} → NextArc t r (suc y) e → (x : ℕ) → y < x
-      → sum_by own given t r (min e x) ≡ sum_by own given t r (min y x) + given (target t r y)
+module _ (own : ℕ) (given : ℕ → ℕ) (none : given 0 ≡ 0) {t : Table} {r : ℕ} where
+  -- the letters without a target add nothing
+  pub ahead-skip : {y e : ℕ} → NextArc t r y e → (x : ℕ) → y ≤ x → x ≤ e → sum_by own given t r x ≡ sum_by own given t r y
+  ahead-skip {y} a x h k =
+      rw (total-skip (λ z. given (target t r z)) y x h (λ z low below. rw (a.none z low (omega arith)) none))
+
+  pub ahead_more : {s e : Arcs} {x n : ℕ} → Goes t r s e x n → sum_by own given t r e.from ≡ sum_by own given t r s.from + given n
   unfolding total
-  ahead_more {y} a x h = let low : min y x ≡ y = omega arith in ahead-skip a x h ∙ rw low (omega arith)
+  ahead_more {x = x} a =
+      rw a.to (
+      ap (λ y. sum_by own given t r y) a.from
+      ∙ (let skip = ahead-skip a.next x a.next.from (omega arith) in omega (arith, skip))
+      )
 
 module _ (t : Table) (tidy : Tidy t) (r : ℕ) (u : Used t r) where
   -- what the letter's target gives

@@ -10,8 +10,7 @@ ghost use Rattle.rows.specs.Tidy.{Used, Named, Tidy};
 ghost use Rattle.counting.specs.Ahead.{ahead_by};
 ghost use Rattle.counting.specs.Counts.{count_at, Counts, Counted, CountsMore};
 
-use letters::LETTERS;
-use rows::{next_arc, start, target};
+use rows::{arcs_of, start, target};
 use walking::ends;
 
 // "the list has over 60,000 names": a greater number of words is kept as one more than this.
@@ -48,10 +47,11 @@ pub fn words_ahead(t: &[u16], r: usize, x: usize, counts: &[u16]) -> u32
     ensures { result ≡ ahead_by (λ s. count_at counts.now s) t.now r x }
 {
     let mut n = ends_count(t, r);
-    let mut y = next_arc(t, r, 0);
-    while y < x {
-        n += target_count(t, r, y, counts);
-        y = next_arc(t, r, y + 1);
+    for (y, s) in arcs_of(t, r) {
+        if x <= y {
+            break;
+        }
+        n += count_at(counts, s) as u32;
     }
     n
 }
@@ -82,11 +82,8 @@ fn count_from(t: &[u16], n: usize, counts: &mut [u16]) -> u16
         return known;
     }
     let mut sum = ends_count(t, n);
-    let mut x = next_arc(t, n, 0);
-    while x < LETTERS {
-        let s = target(t, n, x) as usize;
+    for (_, s) in arcs_of(t, n) {
         sum += count_from(t, s, counts) as u32;
-        x = next_arc(t, n, x + 1);
     }
     let all = cut(sum);
     counts[n] = all;

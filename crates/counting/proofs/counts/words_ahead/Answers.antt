@@ -1,48 +1,52 @@
-use Prim.Native.Nat.{◌<◌, min}
-use mathlib.Core.Path.{◌≡◌}
-use native.Mathlib.Numerals.{add-one}
+use Prim.Native.Nat.{◌≤◌}
+use mathlib.Core.Path.{refl, ◌∙◌, sym}
+use borrow.Author.Rules.{rules}
 use native.Mathlib.Omega.{arith}
 use Rattle.letters.specs.LetterSet.{flag}
 use Rattle.letters.proofs.LetterSet.{flag-le}
 use Rattle.sets.specs.Below.{total}
-use Rattle.rows.specs.Table.{target, ends}
+use Rattle.rows.specs.Table.{ends}
+use Rattle.rows.specs.Arcs.{ArcsOf}
+use Rattle.rows.proofs.Stepping.{goes, gone}
 use Rattle.counting.specs.Counts.{count_at}
-use Rattle.counting.proofs.Ahead.{ahead-skip, ahead_more}
+use Rattle.counting.proofs.Ahead.{ahead_none, ahead-skip, ahead_more}
 use Rattle.counting.proofs.counts.words_ahead.Goals as goal
-use Rattle.counting.proofs.counts.words_ahead.Goals.{After-target_count-n}
 
 pub loop-y-init : goal.loop-y-init
-unfolding total
 loop-y-init c =
     let args = c.args in
-    let skip = ahead-skip (flag (ends args.t.now args.r)) (λ s. count_at args.counts.now s) c.requires.4 c.next_arc-y.ensures args.x (omega arith) in (
-      c.next_arc-y.ensures.to,
-      omega (arith, c.ends_count-n.ensures, flag-le (ends args.t.now args.r)),
-      omega (arith, c.ends_count-n.ensures, skip),
+    let arcs = c.arcs_of-y-items.ensures in
+    let none = ahead_none (flag (ends args.t.now args.r)) (λ s. count_at args.counts.now s) args.t.now args.r arcs.from in
+    rw c.into_iter-y-iterator.ensures.into_iter_gives (
+      record { table = arcs.table; row = arcs.row },
+      omega (arith, arcs.from),
+      omega (arith, arcs.from, c.ends_count-n.ensures, flag-le (ends args.t.now args.r)),
+      c.ends_count-n.ensures ∙ sym none,
     )
-
--- a number of the array is a u16
-small : (c : After-target_count-n) → c.target_count-n.result < 65536
-small c =
-    let args = c.args in
-    rw c.target_count-n.ensures
-    (omega (arith, c.shared_slice_known-2-1.given (target args.t.now args.r c.loop-y.y)))
-
-pub overflow_add-n : goal.overflow_add-n
-overflow_add-n c = omega (arith, small c)
 
 pub loop-y-preserved : goal.loop-y-preserved
 loop-y-preserved c =
-    let loop = c.loop-y in
-    let skipped = rw add-one at c.next_arc-y-in-loop-y.ensures in
+    let (arcs, to, few, all) = c.loop-y.invariant in
     let args = c.args in
+    let one = goes arcs c.in-Some.ensures.steps in
     let own = flag (ends args.t.now args.r) in
-    let more = ahead_more own (λ s. count_at args.counts.now s) c.requires.4 skipped args.x (omega arith) in
-    (skipped.to, omega (arith, small (goal.at.loop-y-preserved c).After-target_count-n), omega (arith, c.target_count-n.ensures, more))
+    let more = ahead_more own (λ s. count_at args.counts.now s) c.requires.4 one in (
+      one.still,
+      omega (arith, one.from),
+      omega (arith, few, one.from, one.next.from, c.count_at.type_inv),
+      omega (arith, all, more, c.count_at.ensures),
+    )
 
-pub returns : goal.returns
-returns c =
-    let loop = c.loop-y in
-    let x = c.args.x in
-    let all : min loop.y x ≡ x = omega arith in
-    rw all at loop.invariant.2
+pub returns-in-None : goal.returns-in-None
+returns-in-None c =
+    let (arcs, to, few, all) = c.loop-y.invariant in
+    let args = c.args in
+    let none = gone arcs c.in-None.ensures.steps in
+    all ∙ sym (ahead-skip (flag (ends args.t.now args.r)) (λ s. count_at args.counts.now s) c.requires.4 none args.x to c.requires.2)
+
+pub returns-then-x-y : goal.returns-then-x-y
+returns-then-x-y c =
+    let (arcs, to, few, all) = c.loop-y.invariant in
+    let args = c.args in
+    let one = goes arcs c.in-Some.ensures.steps in
+    all ∙ sym (ahead-skip (flag (ends args.t.now args.r)) (λ s. count_at args.counts.now s) c.requires.4 one.next args.x to c.if-x-y.true)
