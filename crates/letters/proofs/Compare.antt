@@ -4,7 +4,11 @@ use Prim.Native.Nat.{ℕ, zero, suc, ◌<◌, compare, Ordering}
 use Prim.Native.Nat.compare
 use mathlib.Core.Path.{◌≡◌, refl, ap, ◌∙◌}
 use native.Mathlib.Nat.{not-suc-le-zero, le_of_suc-le-suc}
-use borrow.Author.Tests.{eqb-true}
+use native.Mathlib.Decide.{ℕ_discrete, dec_lt}
+use native.Mathlib.Omega.{arith}
+use borrow.Author.Tests.{eqb-true, lt-ltb, le-ltb, ne_eqb}
+use Rattle.std.specs.Ordering.{nat_cmp}
+use Rattle.letters.specs.Orders.{order_is}
 
 pub compare_same : (x : ℕ) → compare x x ≡ Ordering.eq
 compare_same zero = refl
@@ -40,3 +44,13 @@ compare-trans zero y (suc z) h k = rw compare.zero-suc
 compare-trans (suc x) zero (suc z) h k = cc (compare.suc-zero x)
 compare-trans (suc x) (suc y) (suc z) h k =
     rw compare.suc-suc (compare-trans x y z (rw compare.suc-suc at h) (rw compare.suc-suc at k))
+
+-- what std's comparison of two numbers answers
+pub cmp-is : (x y : ℕ) → nat_cmp x y ≡ order_is (compare x y)
+cmp-is x y = elim (dec_lt x y) [
+  | yes l ↦ rw (lt-ltb x y l, compare-lt x y l)
+  | no n ↦ elim (ℕ_discrete x y) [
+    | yes e ↦ rw (e, le-ltb y y (omega arith), compare_same y)
+    | no d ↦ rw (le-ltb x y (omega arith), ne_eqb x y d, compare-gt x y (omega arith))
+  ]
+]

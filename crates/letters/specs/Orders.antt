@@ -1,9 +1,9 @@
--- The cases of the enum `Order`, by the order of the words. Assumes nothing.
-use Prim.Native.Nat.{Ordering}
-use Rattle.letters.specs.declared.names.Order.{Order}
-use Rattle.letters.specs.declared.names.Order.TheVariants.{Before, Same, After}
+-- The order of the words as std's `Ordering` says it. Assumes nothing.
+use Prim.Native.Nat.{Ordering as Order}
+use Rattle.std.specs.declared.cmp.Ordering.{Ordering}
+use Rattle.std.specs.declared.cmp.Ordering.TheVariants.{Less, Equal, Greater}
 
-abbrev pub order_is : Ordering → Order
-order_is Ordering.lt = Before
-order_is Ordering.eq = Same
-order_is Ordering.gt = After
+abbrev pub order_is : Order → Ordering
+order_is Order.lt = Less
+order_is Order.eq = Equal
+order_is Order.gt = Greater

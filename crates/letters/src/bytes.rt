@@ -9,6 +9,7 @@ pub const LETTERS: usize = 37;
 pub fn letter_of(b: u8) -> usize
     ensures { result ≡ letter b }
 {
+    // No Option: the clause says a number of every byte, by the customer's definition `letter`.
     match b {
         0x5F => 0,
         0x30..=0x39 => (b - 0x30 + 1) as usize,

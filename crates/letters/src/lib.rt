@@ -11,7 +11,5 @@ mod sets;
 
 pub use bytes::{LETTERS, byte_of, letter_of};
 pub use lists::{LINE_END, LONGEST_LIST, is_list, name_at, name_end};
-pub use names::{
-    LONGEST, Order, is_before, is_name, is_spelled, long_as_name, long_as_prefix, order_of,
-};
+pub use names::{LONGEST, is_before, is_name, is_spelled, long_as_name, long_as_prefix, order_of};
 pub use sets::{first_letter, letter_count, with_letter, without_letter};

@@ -18,14 +18,12 @@ pub const LONGEST_LIST: usize = 65535;
 pub fn name_end(s: &[u8], at: usize) -> usize
     ensures { result ≡ name_end s.now at }
 {
-    let mut i = at;
-    while i < s.len() {
+    for i in at..s.len() {
         if s[i] == LINE_END {
             return i;
         }
-        i += 1;
     }
-    i
+    at.max(s.len())
 }
 
 // The name that starts at a place, as a part of the list.
@@ -45,6 +43,7 @@ fn all_names(s: &[u8]) -> bool
     ensures { result ≡ (ended s.now && every is_name (lines_of s.now)) }
 {
     let mut at = 0;
+    // A while: it goes from line to line, and does not count.
     while at < s.len() {
         let end = name_end(s, at);
         if s.len() <= end {
@@ -67,6 +66,7 @@ fn all_rising(s: &[u8]) -> bool
     }
     let mut at = 0;
     let mut end = name_end(s, 0);
+    // A while: it goes from line to line, and each step needs two of them.
     while end + 1 < s.len() {
         let next = end + 1;
         let next_end = name_end(s, next);

@@ -5,28 +5,20 @@ ghost use Rattle.letters.specs.Names.{spelled, long_as_prefix, long_as_name, is_
 ghost use Rattle.letters.specs.Orders.{order_is};
 
 use super::bytes::{LETTERS, letter_of};
+use std::cmp::Ordering;
 
 // The letters of the longest name.
 pub const LONGEST: usize = 24;
-
-// How one name stands to another.
-#[derive(Clone, Copy)]
-pub enum Order {
-    Before,
-    Same,
-    After,
-}
 
 // Is every byte a letter?
 pub fn is_spelled(s: &[u8]) -> bool
     ensures { result ≡ spelled s.now }
 {
-    let mut i = 0;
-    while i < s.len() {
-        if letter_of(s[i]) == LETTERS {
+    // A for: with `all` it takes half as long again.
+    for b in s {
+        if letter_of(*b) == LETTERS {
             return false;
         }
-        i += 1;
     }
     true
 }
@@ -59,40 +51,24 @@ pub fn is_name(s: &[u8]) -> bool
 }
 
 // How the word of a stands to the word of b. Most letters that are the same, are the same byte.
-pub fn order_of(a: &[u8], b: &[u8]) -> Order
+pub fn order_of(a: &[u8], b: &[u8]) -> Ordering
     ensures { result ≡ order_is (order (word_of a.now) (word_of b.now)) }
 {
-    let mut i = 0;
-    while i < a.len() {
-        if b.len() <= i {
-            return Order::After;
-        }
-        if a[i] != b[i] {
-            let x = letter_of(a[i]);
-            let y = letter_of(b[i]);
-            if x < y {
-                return Order::Before;
-            }
-            if y < x {
-                return Order::After;
+    for (p, q) in a.iter().zip(b) {
+        if *p != *q {
+            let x = letter_of(*p);
+            let y = letter_of(*q);
+            if x != y {
+                return x.cmp(&y);
             }
         }
-        i += 1;
     }
-    if i < b.len() {
-        Order::Before
-    } else {
-        Order::Same
-    }
+    a.len().cmp(&b.len())
 }
 
 // Does the word of a stand before the word of b?
 pub fn is_before(a: &[u8], b: &[u8]) -> bool
     ensures { result ≡ before (word_of a.now) (word_of b.now) }
 {
-    match order_of(a, b) {
-        Order::Before => true,
-        Order::Same => false,
-        Order::After => false,
-    }
+    order_of(a, b).is_lt()
 }

@@ -20,12 +20,12 @@ one-letter s i h n = rw (drop-cons s i 0, add-one, lt-ltb (letter (get_or s i 0)
 
 pub returns-then-letter_of-eq-LETTERS : goal.returns-then-letter_of-eq-LETTERS
 returns-then-letter_of-eq-LETTERS c =
-    sym (c.loop-i.invariant ∙ no-letter _ _ c.loop-i-test.true (sym c.letter_of.ensures ∙ c.if-letter_of-eq-LETTERS.true))
+    sym (c.loop-b.invariant ∙ no-letter _ _ c.loop-b-test.true (sym c.letter_of.ensures ∙ c.if-letter_of-eq-LETTERS.true))
 
-pub loop-i-preserved : goal.loop-i-preserved
-loop-i-preserved c =
-    c.loop-i.invariant
-    ∙ one-letter _ _ c.loop-i-test.true (λ e. c.if-letter_of-eq-LETTERS.false (c.letter_of.ensures ∙ e))
+pub loop-b-preserved : goal.loop-b-preserved
+loop-b-preserved c =
+    c.loop-b.invariant
+    ∙ one-letter _ _ c.loop-b-test.true (λ e. c.if-letter_of-eq-LETTERS.false (c.letter_of.ensures ∙ e))
 
 pub returns : goal.returns
-returns c = rw (c.loop-i.invariant, drop_of_length-le _ c.loop-i-test.false)
+returns c = rw (c.loop-b.invariant, drop_of_length-le _ c.loop-b-test.false)

@@ -1,13 +1,8 @@
--- `is_spelled` meets its promise. The loop's invariant: all is spelled where all from `i` on is. The measure is what is left of
--- the bytes. Assumes nothing.
-use Prim.Native.Nat.{◌-◌}
+-- `is_spelled` meets its promise. The loop's invariant: all is spelled where all from the index on is. Assumes nothing.
 use mathlib.Core.Path.{◌≡◌}
-use lib.ListN.{length, drop}
+use lib.ListN.{drop}
 use Rattle.letters.specs.Names.{spelled}
 use Rattle.letters.proofs.names.is_spelled.Given as goal
 
-abbrev pub invariant-loop-i : goal.invariant-loop-i
-invariant-loop-i l = spelled l.s ≡ spelled (drop l.i l.s)
-
-abbrev pub decreases-loop-i : goal.decreases-loop-i
-decreases-loop-i l = length l.s - l.i
+abbrev pub invariant-loop-b : goal.invariant-loop-b
+invariant-loop-b l = spelled l.s ≡ spelled (drop l.b-index l.s)

@@ -1,79 +1,66 @@
-use Prim.Native.Nat.{ℕ, ◌+◌, ◌≤◌, ◌<◌, compare, Ordering}
-use mathlib.Core.Path.{◌≡◌, refl, ap, ◌∙◌}
-use mathlib.Core.List.{List}
-use native.Mathlib.Nat.{le_antisymm}
-use native.Mathlib.Numerals.{add-one}
-use borrow.Author.Rules.{rules}
-use lib.ListN.{length, get_or, drop_of_length-le}
-use lib.Seq.{drop-cons}
+use Prim.Native.Nat.{ℕ, ◌+◌, compare, Ordering}
+use mathlib.Core.Path.{◌≡◌, refl, sym, ap, ◌∙◌}
+use mathlib.Core.Logic.{◌⊎◌, inl, inr}
+use mathlib.Core.List.{List, [], ◌∷◌}
+use native.Mathlib.Omega.{arith}
+use lib.ListN.{length}
+use Rattle.std.specs.Iterator.Adapters.{zip_first, zip_second}
+use Rattle.std.specs.Slice.Iter.{iter_rest}
 use Rattle.letters.specs.Letters.{letter}
 use Rattle.letters.specs.Words.{then, order}
-use Rattle.letters.proofs.Compare.{compare_same, compare-lt, compare-gt}
-use Rattle.letters.proofs.names.order_of.Invariants.{order_from}
+use Rattle.letters.proofs.Compare.{compare_same, compare-eq, compare-lt, compare-gt, cmp-is}
+use Rattle.letters.proofs.Ordering.{order-cons}
+use Rattle.letters.proofs.names.order_of.Invariants.{order_by, Left}
 use Rattle.letters.proofs.names.order_of.Goals as goal
-use Rattle.letters.proofs.names.order_of.Goals.{then-a-i+else-x-y+else-y-x, else-a-i, After-letter_of-y, Else-b-i}
 
-module _ (a b : List ℕ) (i : ℕ) where
-  a-over : length a ≤ i → i < length b → order_from a b i ≡ Ordering.lt
-  unfolding order
-  a-over h k = rw (drop_of_length-le a h, drop-cons b i 0)
+-- both have a letter: it is the same, and what follows decides
+same-letter : (p q : ℕ) (a b : List ℕ) → letter p ≡ letter q → order_by (p ∷ a) (q ∷ b) ≡ order_by a b
+same-letter p q a b e = rw e (order-cons _ _ _)
 
-  b-over : i < length a → length b ≤ i → order_from a b i ≡ Ordering.gt
-  unfolding order
-  b-over h k = rw (drop-cons a i 0, drop_of_length-le b k)
+-- or they are two, and decide
+two-letters : (p q : ℕ) (a b : List ℕ) → (letter p ≡ letter q → ⊥) → order_by (p ∷ a) (q ∷ b) ≡ compare (letter p) (letter q)
+unfolding order
+two-letters p q a b d = go (compare (letter p) (letter q)) (λ e. d (compare-eq _ _ e))
+  where
+    go : (o : Ordering) → (o ≡ Ordering.eq → ⊥) → then o (order_by a b) ≡ o
+    go Ordering.lt n = refl
+    go Ordering.eq n = absurd (n refl)
+    go Ordering.gt n = refl
 
-  both-over : length a ≤ i → length b ≤ i → order_from a b i ≡ Ordering.eq
-  unfolding order
-  both-over h k = rw (drop_of_length-le a h, drop_of_length-le b k)
+-- one is over, after as many letters of both: their lengths decide
+one_over : (m n : ℕ) (a b : List ℕ) → (length a ≡ 0) ⊎ (length b ≡ 0) → m + length b ≡ n + length a → order_by a b ≡ compare m n
+unfolding order
+one_over m n [] [] over e = let d : m ≡ n = omega arith in rw d (sym (compare_same n))
+one_over m n [] (y ∷ b) over e = sym (compare-lt m n (omega arith))
+one_over m n (x ∷ a) [] over e = sym (compare-gt m n (omega arith))
+one_over m n (x ∷ a) (y ∷ b) (inl h) e = absurd (omega arith)
+one_over m n (x ∷ a) (y ∷ b) (inr h) e = absurd (omega arith)
 
-  both-letters : (x y : ℕ) → i < length a → i < length b → x ≡ letter (get_or a i 0) → y ≡ letter (get_or b i 0)
-      → order_from a b i ≡ then (compare x y) (order_from a b (i + 1))
-  unfolding order
-  both-letters x y h k p q = rw (p, q, add-one, drop-cons a i 0, drop-cons b i 0)
-
--- where both names have a letter at `i`, their order is that of letters x and y, or else of what follows
-abbrev Decide : Else-b-i → ℕ → ℕ → Type 0
-Decide c x y =
-    let args = c.args in
-    order_from args.a.now args.b.now 0 ≡ then (compare x y) (order_from args.a.now args.b.now (c.loop-i.i + 1))
-
-letters-decide : (c : Else-b-i) →
-    let args = c.args in
-    (x y : ℕ) → x ≡ letter (get_or args.a.now c.loop-i.i 0) → y ≡ letter (get_or args.b.now c.loop-i.i 0) → Decide c x y
-letters-decide c x y p q =
-    c.loop-i.invariant.1 ∙ both-letters _ _ _ x y c.loop-i-test.true c.if-b-i.false p q
-
--- once both letters at `i` are read
-both_read : (c : After-letter_of-y)
-    → Decide (goal.at.After-letter_of-y c).Else-b-i c.letter_of-x.result c.letter_of-y.result
-both_read c =
-    letters-decide (goal.at.After-letter_of-y c).Else-b-i _ _ c.letter_of-x.ensures c.letter_of-y.ensures
-
-pub returns-then-b-i : goal.returns-then-b-i
-returns-then-b-i c = rw (c.loop-i.invariant.1, b-over _ _ _ c.loop-i-test.true c.if-b-i.true)
+-- the next letters are the same: what is behind them is left
+same-left : {p q : ℕ} {a b u v s t : List ℕ} → Left a b u v → u ≡ p ∷ s → v ≡ q ∷ t → letter p ≡ letter q → Left a b s t
+same-left left first second e =
+    record { read = omega (arith, left.read, ap length first, ap length second); order = left.order ∙ rw (first, second) (same-letter _ _ _ _ e) }
 
 pub returns-then-x-y : goal.returns-then-x-y
-returns-then-x-y c = rw (both_read (goal.at.returns-then-x-y c).After-letter_of-y, compare-lt _ _ c.if-x-y.true)
+returns-then-x-y c =
+    let steps = c.in-Some.ensures.steps in
+    let differ : letter c.in-Some.p.now ≡ letter c.in-Some.q.now → ⊥ = λ e. c.if-x-y.true (c.letter_of-x.ensures ∙ (e ∙ sym c.letter_of-y.ensures)) in
+    rw (c.cmp.ensures, c.letter_of-x.ensures, c.letter_of-y.ensures, c.loop-p.invariant.order, steps.0, steps.1, two-letters) (cmp-is _ _)
 
-pub returns-then-y-x : goal.returns-then-y-x
-returns-then-y-x c = rw (both_read (goal.at.returns-then-y-x c).After-letter_of-y, compare-gt _ _ c.if-y-x.true)
+pub loop-p-preserved-else-x-y : goal.loop-p-preserved-else-x-y
+loop-p-preserved-else-x-y c =
+    let steps = c.in-Some.ensures.steps in
+    same-left c.loop-p.invariant steps.0 steps.1
+    (sym c.letter_of-x.ensures ∙ (c.if-x-y.false ∙ c.letter_of-y.ensures))
 
-pub loop-i-preserved : goal.loop-i-preserved
-loop-i-preserved c = (
-  search rules,
-  elim c.if-a-i.branch [
-    | then-a-i+else-x-y+else-y-x w ↦
-        rw (
-          letters-decide (goal.at.loop-i-preserved c).Else-b-i _ _ w.letter_of-x.ensures w.letter_of-y.ensures,
-          le_antisymm w.if-y-x.false w.if-x-y.false,
-          compare_same,
-        )
-    | else-a-i w ↦ rw (letters-decide (goal.at.loop-i-preserved c).Else-b-i _ _ refl (ap letter w.if-a-i.false), compare_same)
-  ],
-)
+pub loop-p-preserved : goal.loop-p-preserved
+loop-p-preserved c =
+    let steps = c.in-Some.ensures.steps in
+    same-left c.loop-p.invariant steps.0 steps.1 (ap letter c.if-p-q.false)
 
-pub returns-then-i-b : goal.returns-then-i-b
-returns-then-i-b c = rw (c.loop-i.invariant.1, a-over _ _ _ c.loop-i-test.false c.if-i-b.true)
-
-pub returns-else-i-b : goal.returns-else-i-b
-returns-else-i-b c = rw (c.loop-i.invariant.1, both-over _ _ _ c.loop-i-test.false c.if-i-b.false)
+pub returns : goal.returns
+returns c =
+    let a = iter_rest (zip_first c.loop-p.p-iterator) in
+    let b = iter_rest (zip_second c.loop-p.p-iterator) in
+    let over : (length a ≡ 0) ⊎ (length b ≡ 0) = elim c.in-None.ensures.steps [ inl h ↦ inl h.1.0 | inr h ↦ inr h.1.0 ] in
+    rw (c.cmp-2.ensures, c.loop-p.invariant.order, one_over _ _ a b over c.loop-p.invariant.read) (cmp-is _ _)
