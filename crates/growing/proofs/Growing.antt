@@ -2,6 +2,7 @@
 use Prim.Native.Nat.{ℕ, suc, ◌+◌, ◌≤◌, ◌<◌}
 use native.Mathlib.Omega.{arith}
 use mathlib.Core.List.{List, Memᴰ}
+use Rattle.std.specs.Prelude.{Result, Ok, Err}
 use Rattle.letters.specs.Letters.{letters}
 use Rattle.letters.proofs.LetterSet.{count_most}
 use Rattle.sets.specs.Sets.{Words, Filled}
@@ -10,8 +11,7 @@ use Rattle.sets.proofs.States.{after_filled, after-in-states}
 use Rattle.rows.specs.Table.{Table, row_count, in_use, used_rows}
 use Rattle.rows.specs.Tidy.{Tidy}
 use Rattle.rows.proofs.Growth.{grown-self, grown-on}
-use Rattle.growing.specs.declared.makes.Made.{Made}
-use Rattle.growing.specs.declared.makes.Made.TheVariants.{Row, Full}
+use Rattle.growing.specs.declared.makes.Full.{Full}
 use Rattle.growing.specs.Growing.{Grows, MadeFull, Makes}
 
 -- where the words l are needed, so are the words k
@@ -43,8 +43,8 @@ few-rows t = count_most (row_count t) (λ r. in_use t r)
 
 -- t has grown for k, and then a row is made for l: there are never more rows in use than rows
 pub makes-on : {t u : Table} {k : Words} → Grows t u k → (v : Table) (l : Words) → Within k l → (b c : ℕ)
-    → ((n : ℕ) → n ≤ row_count t → n ≤ used_rows u + b → n ≤ used_rows t + c) → (made : Made) → Makes b u v l made → Makes c t v l made
-makes-on first v l within b c few (Row s) second =
+    → ((n : ℕ) → n ≤ row_count t → n ≤ used_rows u + b → n ≤ used_rows t + c) → (made : Result ℕ Full) → Makes b u v l made → Makes c t v l made
+makes-on first v l within b c few (Ok s) second =
     let grows = grows-on first second.grows within in
     record {
       grows = grows;
@@ -52,7 +52,7 @@ makes-on first v l within b c few (Row s) second =
       has = second.has;
       few = few (used_rows v) (omega (arith, few-rows v, grows.grown.long)) second.few;
     }
-makes-on first v l within b c few Full second =
+makes-on first v l within b c few (Err full) second =
     let grows = grows-on first second.grows within in
     record {
       grows = grows;

@@ -1,5 +1,4 @@
 -- The laws of making a row, and of growing step by step. Assumes nothing.
-pub mod Writing
 pub mod Entering
 pub mod Making
 pub mod Growing

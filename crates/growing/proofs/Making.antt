@@ -31,10 +31,9 @@ use Rattle.rows.specs.Growth.{Grown, Useful}
 use Rattle.rows.proofs.Facts.{no_row, used-same, in-use-used, used-in-use, named-cases, named-inside}
 use Rattle.rows.proofs.Words.{fan-empty, fan-word, fan-plain, words-plain, words-none, empty-word, words-target, has_word, height-short}
 use Rattle.rows.proofs.Growth.{grown-self, mark-kept, height-kept, target-kept, number39-kept, used-kept, words-kept}
-use Rattle.growing.specs.declared.makes.Made.TheVariants.{Row, Full}
 use Rattle.index.specs.Index.{Indexed, agrees, Finds}
 use Rattle.growing.specs.Rows.{height_over, words_over, NewRow}
-use Rattle.growing.specs.Growing.{Fitting, Makes}
+use Rattle.growing.specs.Growing.{Fitting, MadeRow, MadeFull}
 use Rattle.growing.proofs.Growing.{grows_self}
 use Rattle.growing.proofs.Entering.{Free, none_free}
 
@@ -90,7 +89,7 @@ module _ (t : Table) (k : ℕ) (ts : List ℕ) (tidy : Tidy t) (fitting : Fittin
   pub height-fits : height_over t ts ≤ longest
   height-fits = greatest-least _ letters longest above-fits
 
-  pub none_made : k ≡ 1 → ((x : ℕ) → x < letters → get_or ts x 0 ≡ 0) → Makes 1 t t (words_over t k ts) (Row 0)
+  pub none_made : k ≡ 1 → ((x : ℕ) → x < letters → get_or ts x 0 ≡ 0) → MadeRow 1 t t (words_over t k ts) 0
   unfolding member
   none_made one none =
       record {
@@ -104,7 +103,7 @@ module _ (t : Table) (k : ℕ) (ts : List ℕ) (tidy : Tidy t) (fitting : Fittin
       same [] s = rw (fan-empty, words-none t 0 (no_row t 0 refl), one)
       same (x ∷ w) s = rw (fan-word, lt-ltb x letters s.0, none x s.0, words-none t 0 (no_row t 0 refl))
 
-  pub found-made : {f : ℕ} → Finds t (row_count t) k ts f → 0 < f → Makes 1 t t (words_over t k ts) (Row f)
+  pub found-made : {f : ℕ} → Finds t (row_count t) k ts f → 0 < f → MadeRow 1 t t (words_over t k ts) f
   found-made {f} found some =
       let row = agrees_has t f k ts (found.there some) in
       record {
@@ -114,7 +113,7 @@ module _ (t : Table) (k : ℕ) (ts : List ℕ) (tidy : Tidy t) (fitting : Fittin
         few = omega arith;
       }
 
-  pub full-made : {index : List ℕ} → Indexed t index → get_or index 0 0 ≡ 0 → Makes 1 t t (words_over t k ts) Full
+  pub full-made : {index : List ℕ} → Indexed t index → get_or index 0 0 ≡ 0 → MadeFull 1 t t (words_over t k ts)
   full-made indexed e =
       record {
         grows = grows_self t tidy _;
@@ -307,7 +306,7 @@ module _ (t : Table) (k : ℕ) (ts : List ℕ) (tidy : Tidy t) (fitting : Fittin
                 } in
                 none.none refl s (omega (arith, old.inside)) (has-agrees t s k ts same)
 
-    pub new-made : Makes 1 t u (words_over t k ts) (Row r)
+    pub new-made : MadeRow 1 t u (words_over t k ts) r
     new-made =
         record {
           grows = record { tidy = new-tidy; grown = new-grown; useful = useful };

@@ -6,6 +6,7 @@ use native.Mathlib.Decide.{ℕ_discrete}
 use mathlib.Core.Path.{◌≡◌, refl, sym, ◌∙◌}
 use mathlib.Core.Bool.{Bool, true, false}
 use mathlib.Core.List.{List, [], ◌∷◌}
+use Rattle.std.specs.Prelude.{Result, Err}
 use lib.Dec.{eqb}
 use lib.ListN.{length, get_or, set, replicate, length-set, get_or-replicate}
 use lib.Seq.{get_or-set_same, get_or-set_other}
@@ -24,8 +25,7 @@ use Rattle.rows.specs.Tidy.{Tidy}
 use Rattle.rows.proofs.Facts.{no_row}
 use Rattle.rows.proofs.Words.{fan-empty, fan-word, fan-plain, words-plain, words-none}
 use Rattle.rows.proofs.Growth.{named-kept, words-kept}
-use Rattle.growing.specs.declared.makes.Made.{Made}
-use Rattle.growing.specs.declared.makes.Made.TheVariants.{Full}
+use Rattle.growing.specs.declared.makes.Full.{Full}
 use Rattle.growing.specs.Rows.{end_mark, words_over}
 use Rattle.growing.specs.Growing.{Fitting, MadeRow, MadeFull, Makes, TargetsMade}
 use Rattle.growing.proofs.Growing.{Within, grows_self, grows-within, grows-on, makes-on, full-within}
@@ -54,7 +54,7 @@ targets-none t tidy l =
 
 module _ {t u : Table} {l : Words} {given : ℕ → Words} {ts : List ℕ} (so_far : TargetsMade t u l given ts) where
   -- a row for l after that, with no count of the rows
-  made-on : (v : Table) (most : ℕ) (made : Made) → Makes most u v l made → Makes (row_count t) t v l made
+  made-on : (v : Table) (most : ℕ) (made : Result ℕ Full) → Makes most u v l made → Makes (row_count t) t v l made
   made-on v most = makes-on so_far.grows v l (λ ls needed. needed) most (row_count t) (λ n h _. omega arith)
 
   -- one more target
@@ -80,8 +80,8 @@ module _ {t u : Table} {l : Words} {given : ℕ → Words} {ts : List ℕ} (so_f
       here = get_or-set_same ts x n 0 (rw so_far.long h)
 
   -- no row is free for a target
-  pub targets-full : (v : Table) (most : ℕ) (k : Words) → MadeFull most u v k → Within k l → Makes (row_count t) t v l Full
-  targets-full v most k full within = made-on v most Full (full-within full within)
+  pub targets-full : (v : Table) (most : ℕ) (k : Words) → MadeFull most u v k → Within k l → MadeFull (row_count t) t v l
+  targets-full v most k full within = made-on v most (Err (record {})) (full-within full within)
 
   -- every target is there: the row has the words l
   module _ (plain : Plain l) (short : Each (λ w. length w ≤ longest) l) (all : (x : ℕ) → x < letters → given x ≡ after x l) where
@@ -107,5 +107,5 @@ module _ {t u : Table} {l : Words} {given : ℕ → Words} {ts : List ℕ} (so_f
         same [] s = rw fan-empty (mark-ends (member [] l))
         same (x ∷ w) s = rw (fan-word, lt-ltb x letters s.0, target-words x s.0) (member-after x w l)
 
-    pub targets-made : (v : Table) (made : Made) → Makes 1 u v (words_over u (end_mark (member [] l)) ts) made → Makes (row_count t) t v l made
+    pub targets-made : (v : Table) (made : Result ℕ Full) → Makes 1 u v (words_over u (end_mark (member [] l)) ts) made → Makes (row_count t) t v l made
     targets-made v made m = made-on v 1 made (rw over-words at m)

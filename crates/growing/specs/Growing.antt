@@ -1,5 +1,5 @@
 -- What every function promises that makes rows for some words: it never touches a row in use. Assumes nothing.
-use Rattle.std.specs.Prelude.{ℕ, suc, ◌+◌, ◌≤◌, ◌<◌, ◌≡◌, length, get_or}
+use Rattle.std.specs.Prelude.{ℕ, suc, ◌+◌, ◌≤◌, ◌<◌, ◌≡◌, Result, Ok, Err, length, get_or}
 use mathlib.Core.List.{List, Memᴰ}
 use Rattle.letters.specs.Each.{Each}
 use Rattle.letters.specs.Letters.{letters}
@@ -10,8 +10,7 @@ use Rattle.rows.specs.Table.{Table, row_count, used_rows}
 use Rattle.rows.specs.Words.{words}
 use Rattle.rows.specs.Tidy.{Named, Tidy}
 use Rattle.rows.specs.Growth.{Grown, Useful}
-use Rattle.growing.specs.declared.makes.Made.{Made}
-use Rattle.growing.specs.declared.makes.Made.TheVariants.{Row, Full}
+use Rattle.growing.specs.declared.makes.Full.{Full}
 
 -- a mark and targets that a row of the table may have: its words have at most 24 letters
 pub record Fitting (t : Table) (k : ℕ) (targets : List ℕ) : Type 0 where
@@ -40,9 +39,9 @@ pub record MadeFull (most : ℕ) (t u : Table) (l : Words) : Type 0 where
   pub few : used_rows u < used_rows t + most
 
 -- what is promised of the row for the words l, with at most so many rows more in use
-abbrev pub Makes : ℕ → Table → Table → Words → Made → Type 0
-Makes most t u l (Row r) = MadeRow most t u l r
-Makes most t u l Full = MadeFull most t u l
+abbrev pub Makes : ℕ → Table → Table → Words → Result ℕ Full → Type 0
+Makes most t u l (Ok r) = MadeRow most t u l r
+Makes most t u l (Err full) = MadeFull most t u l
 
 -- rows were made for the targets of a row that is wanted for the words l: so far the target of letter x has the words `given x`
 pub record TargetsMade (t u : Table) (l : Words) (given : ℕ → Words) (targets : List ℕ) : Type 0 where

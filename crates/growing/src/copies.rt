@@ -3,7 +3,7 @@ ghost use Rattle.std.specs.Prelude.{◌≡◌};
 ghost use Rattle.growing.specs.Copies.{mark_of, targets_of};
 
 use letters::LETTERS;
-use rows::{is_row, mark, target};
+use rows::{is_row, mark, targets};
 
 pub fn mark_of(t: &[u16], n: u16) -> u16
     ensures { result ≡ mark_of t.now n }
@@ -17,14 +17,9 @@ pub fn mark_of(t: &[u16], n: u16) -> u16
 pub fn targets_of(t: &[u16], n: u16) -> [u16; LETTERS]
     ensures { result ≡ targets_of t.now n }
 {
-    let mut targets = [0u16; LETTERS];
-    if !is_row(t, n as usize) {
-        return targets;
+    let mut copy = [0u16; LETTERS];
+    if is_row(t, n as usize) {
+        copy.copy_from_slice(targets(t, n as usize));
     }
-    let mut x = 0;
-    while x < LETTERS {
-        targets[x] = target(t, n as usize, x);
-        x += 1;
-    }
-    targets
+    copy
 }

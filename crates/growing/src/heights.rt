@@ -5,8 +5,7 @@ ghost use Rattle.rows.specs.Table.{row_count};
 ghost use Rattle.rows.specs.Rules.{above};
 ghost use Rattle.growing.specs.Rows.{height_over};
 
-use letters::LETTERS;
-use rows::{height, higher};
+use rows::height;
 
 // What a target asks of the height of its row: one more than its own, or 0 for none.
 fn above(t: &[u16], n: u16) -> usize
@@ -24,11 +23,9 @@ pub fn height_over(t: &[u16], targets: &[u16]) -> usize
     requires { (length targets.now ≡ letters) × ((x : ℕ) → x < letters → get_or targets.now x 0 < row_count t.now) }
     ensures { result ≡ height_over t.now targets.now }
 {
-    let mut top = 0;
-    let mut x = 0;
-    while x < LETTERS {
-        top = higher(top, above(t, targets[x]));
-        x += 1;
+    let mut top = 0usize;
+    for n in targets {
+        top = top.max(above(t, *n));
     }
     top
 }

@@ -8,4 +8,4 @@ mod makes;
 mod writes;
 
 pub use copies::{mark_of, targets_of};
-pub use makes::{Made, end_mark, make};
+pub use makes::{Full, end_mark, make};

@@ -11,12 +11,9 @@ use index::{enter, find, free_row, key_of};
 use letters::LETTERS;
 use rows::past_zeros;
 
-// The row that was asked for, found or new, or 0 where it would have no words; or no row is free.
-#[derive(Clone, Copy)]
-pub enum Made {
-    Row(u16),
-    Full,
-}
+// No row is free.
+#[derive(Clone, Copy, Debug, PartialEq, Eq)]
+pub struct Full;
 
 // The mark of a row where a name may end, or none may.
 pub fn end_mark(ends: bool) -> u16
@@ -25,25 +22,31 @@ pub fn end_mark(ends: bool) -> u16
     if ends { 2 } else { 1 }
 }
 
-// A new row is made only where none in use agrees. The index of the table is kept up.
-pub fn make(t: &mut [u16], index: &mut [u16], mark: u16, targets: [u16; LETTERS]) -> Made
+// The row that was asked for, or 0 where it would have no words. A new row is made only where none in use
+// agrees. The index of the table is kept up.
+pub fn make(
+    t: &mut [u16],
+    index: &mut [u16],
+    mark: u16,
+    targets: [u16; LETTERS],
+) -> Result<u16, Full>
     requires { Tidy t.old × Indexed t.old index.old × Fitting t.old mark targets }
     ensures makes { Makes 1 t.old t.new (words_over t.old mark targets) result }
     ensures indexed { Indexed t.new index.new }
 {
     if mark == 1 && past_zeros(&targets, 0, LETTERS) == LETTERS {
-        return Made::Row(0);
+        return Ok(0);
     }
     let same = find(t, index, mark, &targets, key_of(mark, &targets));
     if same != 0 {
-        return Made::Row(same as u16);
+        return Ok(same as u16);
     }
     let free = free_row(index);
     if free == 0 {
-        return Made::Full;
+        return Err(Full);
     }
     let height = height_over(t, &targets);
     write_row(t, free, mark, height as u16, &targets);
     enter(t, index, free);
-    Made::Row(free as u16)
+    Ok(free as u16)
 }

@@ -12,11 +12,8 @@ pub fn write_row(t: &mut [u16], r: usize, mark: u16, height: u16, targets: &[u16
     requires { (r < row_count t.old) × (length targets.now ≡ letters) }
     ensures { NewRow t.old t.new r mark height targets.now }
 {
-    t[r * WIDTH] = mark;
-    t[r * WIDTH + 1] = height;
-    let mut x = 0;
-    while x < LETTERS {
-        t[r * WIDTH + 2 + x] = targets[x];
-        x += 1;
-    }
+    let first = r * WIDTH;
+    t[first] = mark;
+    t[first + 1] = height;
+    t[first + 2..first + 2 + LETTERS].copy_from_slice(targets);
 }

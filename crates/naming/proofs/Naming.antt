@@ -8,6 +8,7 @@ use mathlib.Core.Path.{◌≡◌, refl, sym, ◌∙◌}
 use mathlib.Core.Logic.{inl, inr}
 use mathlib.Core.Bool.{Bool, true, false, cond}
 use mathlib.Core.List.{List, [], ◌∷◌}
+use Rattle.std.specs.Prelude.{Result, Err}
 use lib.Dec.{eqb}
 use lib.ListN.{length, get_or, set, length-map}
 use lib.Seq.{get_or-set_same, get_or-set_other}
@@ -33,8 +34,7 @@ use Rattle.rows.proofs.Words.{fan-empty, fan-word, fan-plain, words-plain, words
 use Rattle.rows.proofs.Growth.{named-kept, words-kept}
 use Rattle.growing.specs.Copies.{mark_of, target_of, targets_of}
 use Rattle.growing.specs.Rows.{end_mark, words_over}
-use Rattle.growing.specs.declared.makes.Made.{Made}
-use Rattle.growing.specs.declared.makes.Made.TheVariants.{Full}
+use Rattle.growing.specs.declared.makes.Full.{Full}
 use Rattle.growing.specs.Growing.{Fitting, MadeRow, MadeFull, Makes}
 use Rattle.growing.proofs.Growing.{Within, within-after, grows_self, makes-on, full-within}
 use Rattle.growing.proofs.Targets.{end_marked, mark-ends}
@@ -195,9 +195,9 @@ module _ (t : Table) (tidy : Tidy t) (r : ℕ) (named : Named t r) where
         )
         (within-after first first-letter (with_name on (first ∷ left) (words t r)))
 
-    pub path-full : (u : Table) → MadeFull (suc (length (rest name))) t u (with_name on left (words t next)) → Makes (suc (length name)) t u wanted Full
+    pub path-full : (u : Table) → MadeFull (suc (length (rest name))) t u (with_name on left (words t next)) → MadeFull (suc (length name)) t u wanted
     path-full u full =
-        makes-on (grows_self t tidy wanted) u wanted (λ ls needed. needed) _ (suc (length name)) (λ n _ h. omega (arith, rest-length name some)) Full
+        makes-on (grows_self t tidy wanted) u wanted (λ ls needed. needed) _ (suc (length name)) (λ n _ h. omega (arith, rest-length name some)) (Err (record {}))
         (full-within full left-within)
 
     module _ (u : Table) (n : ℕ) (made : MadeRow (suc (length (rest name))) t u (with_name on left (words t next)) n) where
@@ -207,7 +207,7 @@ module _ (t : Table) (tidy : Tidy t) (r : ℕ) (named : Named t r) where
       pub path-fits : Fitting u (mark_of t r) (set (targets_of t r) first n)
       path-fits = step_fits on first left first-letter left-spelled left-short u n _ made-there
 
-      pub path-made : (v : Table) (new : Made) → Makes 1 u v (words_over u (mark_of t r) (set (targets_of t r) first n)) new
+      pub path-made : (v : Table) (new : Result ℕ Full) → Makes 1 u v (words_over u (mark_of t r) (set (targets_of t r) first n)) new
           → Makes (suc (length name)) t v wanted new
       path-made v new m =
           let same : words_over u (mark_of t r) (set (targets_of t r) first n) ≡ wanted =

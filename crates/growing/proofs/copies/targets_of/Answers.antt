@@ -1,60 +1,39 @@
-use Prim.Native.Nat.{ℕ, ◌+◌, ◌<◌}
+-- `targets_of` meets its promise: the list of the 37 targets of a row has each of them in its place, and without a row each is 0. Assumes nothing.
+use Prim.Native.Nat.{ℕ, ◌<◌}
 use mathlib.Core.Path.{◌≡◌, refl, sym, ◌∙◌}
-use mathlib.Core.Bool.{true}
 use mathlib.Core.List.{List}
-use native.Mathlib.Decide.{ℕ_discrete}
 use native.Mathlib.Omega.{arith}
-use lib.ListN.{length, get_or, set, replicate, length-set}
-use lib.Seq.{get_or-set_same, get_or-set_other, ext_get_or}
+use lib.ListN.{length, get_or, replicate, get_or-replicate, length-take, length-drop}
+use lib.Seq.{ext_get_or}
 use Rattle.letters.specs.Letters.{letters}
 use Rattle.sets.proofs.Below.{length-each, each_at}
-use Rattle.rows.specs.Table.{Table, is_row}
+use Rattle.rows.specs.Table.{Table}
 use Rattle.rows.proofs.Facts.{row_inside}
-use Rattle.rows.proofs.Zeros.{zero-cell}
+use Rattle.rows.proofs.Skipping.{row_target}
 use Rattle.growing.specs.Copies.{target_of, targets_of}
 use Rattle.growing.proofs.copies.targets_of.Goals as goal
-use Rattle.growing.proofs.copies.targets_of.Goals.{Else-not-is_row}
 
-module _ (t : Table) (n : ℕ) (targets : List ℕ) (long : length targets ≡ letters) where
-  one_more : (x : ℕ) → x < letters → ((y : ℕ) → y < x → get_or targets y 0 ≡ target_of t n y)
-      → (y : ℕ) → y < x + 1 → get_or (set targets x (target_of t n x)) y 0 ≡ target_of t n y
-  one_more x h before y below =
-      elim (ℕ_discrete y x) [
-        | yes e ↦ rw e (get_or-set_same targets x (target_of t n x) 0 (omega arith))
-        | no e ↦ get_or-set_other targets x y (target_of t n x) 0 e ∙ before y (omega arith)
-      ]
+all-copied : (t : Table) (n : ℕ) (copy : List ℕ) → length copy ≡ letters → ((x : ℕ) → x < letters → get_or copy x 0 ≡ target_of t n x)
+    → copy ≡ targets_of t n
+all-copied t n copy long same =
+    ext_get_or 0 copy (targets_of t n) (long ∙ sym (length-each _ letters))
+    (λ x h. same x (omega arith) ∙ sym (each_at (λ x. target_of t n x) letters x 0 (omega arith)))
 
-  all-copied : ((y : ℕ) → y < letters → get_or targets y 0 ≡ target_of t n y) → targets ≡ targets_of t n
-  all-copied same =
-      ext_get_or 0 targets (targets_of t n) (long ∙ sym (length-each _ letters))
-      (λ y h. same y (omega arith) ∙ sym (each_at (λ x. target_of t n x) letters y 0 (omega arith)))
-
-row : (c : Else-not-is_row) → is_row c.args.t.now c.args.n ≡ true
-row c = sym c.is_row.ensures ∙ c.if-not-is_row.false
-
-pub returns-then-not-is_row : goal.returns-then-not-is_row
-returns-then-not-is_row c =
-    let none = sym c.is_row.ensures ∙ c.if-not-is_row.true in
+pub copy_from_slice-requires : goal.copy_from_slice-requires
+copy_from_slice-requires c =
     let args = c.args in
-    all-copied args.t.now args.n (replicate letters 0) refl (λ y h. rw none (zero-cell letters y))
+    let inside = (row_inside args.t.now args.n (sym c.is_row.ensures ∙ c.if-is_row.true)).1 in
+    rw c.targets.ensures (simp (length-take, length-drop) (omega arith))
 
-pub loop-x-init : goal.loop-x-init
-loop-x-init c = (refl, omega arith, λ y h. absurd (omega arith))
-
-pub target-requires : goal.target-requires
-target-requires c =
+pub returns-then-is_row : goal.returns-then-is_row
+returns-then-is_row c =
     let args = c.args in
-    ((row_inside args.t.now args.n (row (goal.at.target-requires c).Else-not-is_row)).1, omega arith)
+    let row = sym c.is_row.ensures ∙ c.if-is_row.true in
+    let copied = c.copy_from_slice.ensures.after ∙ c.targets.ensures in
+    all-copied args.t.now args.n _ c.copy_from_slice.ensures.len (λ x h. rw (copied, row) (row_target args.t.now args.n x h))
 
-pub loop-x-preserved : goal.loop-x-preserved
-loop-x-preserved c =
-    let l = c.loop-x in
+pub returns-else-is_row : goal.returns-else-is_row
+returns-else-is_row c =
+    let none = sym c.is_row.ensures ∙ c.if-is_row.false in
     let args = c.args in
-    let one : c.target.result ≡ target_of args.t.now args.n l.x = rw (row (goal.at.loop-x-preserved c).Else-not-is_row) c.target.ensures in
-    (simp length-set l.invariant.0, omega arith, rw one (one_more args.t.now args.n l.targets l.invariant.0 l.x (omega arith) l.invariant.2))
-
-pub returns : goal.returns
-returns c =
-    let l = c.loop-x in
-    let args = c.args in
-    all-copied args.t.now args.n l.targets l.invariant.0 (λ y h. l.invariant.2 y (omega arith))
+    all-copied args.t.now args.n (replicate letters 0) refl (λ x h. rw (none, get_or-replicate {A = ℕ} letters x 0 0 h))

@@ -3,7 +3,6 @@
 use Prim.Native.Nat.{ℕ, ◌<◌}
 use mathlib.Core.Path.{◌≡◌, sym, ◌∙◌}
 use native.Mathlib.Omega.{arith}
-use borrow.Author.Rules.{rules}
 use mathlib.Core.List.{List}
 use lib.ListN.{get_or}
 use Rattle.letters.specs.Letters.{letters}
@@ -22,12 +21,12 @@ written_as e d w = rw e at (rw d at w)
 found_none : {t : Table} {n k f : ℕ} {ts : List ℕ} → f ≡ 0 → Finds t n k ts f → Finds t n k ts 0
 found_none e d = rw e at d
 
-pub returns-then-past_zeros-eq-LETTERS : goal.returns-then-past_zeros-eq-LETTERS
-returns-then-past_zeros-eq-LETTERS c =
+pub returns-then-past_zeros-eq-LETTERS-clause-makes : goal.returns-then-past_zeros-eq-LETTERS-clause-makes
+returns-then-past_zeros-eq-LETTERS-clause-makes c =
     let (tidy, indexed, fitting) = c.requires in
     let skipped = c.past_zeros.ensures in
     let over = c.if-past_zeros-eq-LETTERS.true in
-    (record { makes = none_made _ _ _ tidy fitting (omega arith) (λ x h. skipped.before.zeros x (omega arith) (omega (arith, over))); indexed = indexed })
+    none_made _ _ _ tidy fitting (omega arith) (λ x h. skipped.before.zeros x (omega arith) (omega (arith, over)))
 
 -- behind the first test: where no name may end, there is a target
 some : (c : Joined-else-mark-eq1) → c.args.mark ≡ 1 → (x : ℕ) × (x < letters) × (0 < get_or c.args.targets x 0)
@@ -40,25 +39,15 @@ some c one =
       | else-mark-eq1-via-else-mark-eq1 w ↦ absurd (omega arith)
     ]
 
-pub find-same-requires : goal.find-same-requires
-find-same-requires c =
+pub returns-then-same-ne0-clause-makes : goal.returns-then-same-ne0-clause-makes
+returns-then-same-ne0-clause-makes c =
     let (tidy, indexed, fitting) = c.requires in
-    (indexed, record { some = fitting.some; long = search rules; keyed = c.key_of.ensures })
+    found-made _ _ _ tidy fitting c.find-same.ensures (omega arith)
 
-pub overflow_cast-result : goal.overflow_cast-result
-overflow_cast-result c =
+pub returns-then-free-eq0-clause-makes : goal.returns-then-free-eq0-clause-makes
+returns-then-free-eq0-clause-makes c =
     let (tidy, indexed, fitting) = c.requires in
-    omega (arith, c.find-same.ensures.low, tidy.most)
-
-pub returns-then-same-ne0 : goal.returns-then-same-ne0
-returns-then-same-ne0 c =
-    let (tidy, indexed, fitting) = c.requires in
-    (record { makes = found-made _ _ _ tidy fitting c.find-same.ensures (omega arith); indexed = indexed })
-
-pub returns-then-free-eq0 : goal.returns-then-free-eq0
-returns-then-free-eq0 c =
-    let (tidy, indexed, fitting) = c.requires in
-    (record { makes = full-made _ _ _ tidy fitting indexed (sym c.free_row-free.ensures ∙ omega arith); indexed = indexed })
+    full-made _ _ _ tidy fitting indexed (sym c.free_row-free.ensures ∙ omega arith)
 
 -- where a row is free, it is inside the table
 free : (c : Else-free-eq0) → Free c.args.t.now (get_or c.args.index.now 0 0)
@@ -66,20 +55,10 @@ free c =
     let (tidy, indexed, fitting) = c.requires in
     first-free _ indexed (omega (arith, c.free_row-free.ensures))
 
-pub height_over-height-requires : goal.height_over-height-requires
-height_over-height-requires c =
-    let (tidy, indexed, fitting) = c.requires in
-    (search rules, targets-inside _ _ _ tidy fitting)
-
 pub overflow_cast-height : goal.overflow_cast-height
 overflow_cast-height c =
     let (tidy, indexed, fitting) = c.requires in
     omega (arith, c.height_over-height.ensures, height-fits _ _ _ tidy fitting)
-
-pub write_row-requires : goal.write_row-requires
-write_row-requires c =
-    let start = (goal.at.write_row-requires c).Start in
-    (omega (arith, (free (goal.at.write_row-requires c).Else-free-eq0).inside, c.free_row-free.ensures), search rules)
 
 -- the last free row is written
 written : (c : After-write_row) →
@@ -91,19 +70,15 @@ written c =
 pub enter-requires : goal.enter-requires
 enter-requires c =
     let (tidy, indexed, fitting) = c.requires in
+    let at = goal.at.enter-requires c in
     rw c.free_row-free.ensures
-    (written-entering _ indexed (free (goal.at.enter-requires c).Else-free-eq0).positive fitting.some (written (goal.at.enter-requires c).After-write_row) (targets-inside _ _ _ tidy fitting))
+    (written-entering _ indexed (free at.Else-free-eq0).positive fitting.some (written at.After-write_row) (targets-inside _ _ _ tidy fitting))
 
-pub overflow_cast-result-2 : goal.overflow_cast-result-2
-overflow_cast-result-2 c =
+pub returns-clause-makes : goal.returns-clause-makes
+returns-clause-makes c =
     let (tidy, indexed, fitting) = c.requires in
-    omega (arith, (free (goal.at.overflow_cast-result-2 c).Else-free-eq0).inside, c.free_row-free.ensures, tidy.most)
-
-pub returns : goal.returns
-returns c =
-    let (tidy, indexed, fitting) = c.requires in
-    let none : c.find-same.result ≡ 0 = omega arith in (record {
-      makes = rw c.free_row-free.ensures
-          (new-made _ _ _ tidy fitting _ (some (goal.at.returns c).Joined-else-mark-eq1) (found_none none c.find-same.ensures) _ (free (goal.at.returns c).Else-free-eq0) (written (goal.at.returns c).After-write_row));
-      indexed = c.enter.ensures;
-    })
+    let none : c.find-same.result ≡ 0 = omega arith in
+    let at = goal.at.returns-clause-makes c in
+    rw c.free_row-free.ensures
+    (new-made _ _ _ tidy fitting _ (some at.Joined-else-mark-eq1) (found_none none c.find-same.ensures) _ (free at.Else-free-eq0)
+    (written at.After-write_row))
