@@ -5,4 +5,4 @@
 
 mod admits;
 
-pub use admits::{Admission, admit, admit_book, admit_indexed, admit_walk, if_fine};
+pub use admits::{admit, admit_book, admit_indexed, admit_walk, if_fine};

@@ -7,16 +7,14 @@ use mathlib.Core.Bool.{cond}
 use mathlib.Core.List.{List, [], ◌∷◌}
 use lib.Dec.{eqb}
 use lib.ListN.{get_or}
+use Rattle.std.specs.Prelude.{Result, Ok, Err}
 use Rattle.answers.specs.declared.cases.Refusal.{Refusal}
 use Rattle.answers.specs.declared.cases.Refusal.TheVariants as refusal
-use Rattle.answers.specs.declared.cases.Answer.{Answer}
-use Rattle.answers.specs.declared.cases.Answer.TheVariants as answer
 use Rattle.answers.specs.declared.cases.Asked.{Asked}
 use Rattle.answers.specs.declared.cases.Asked.TheVariants as asked
 use Rattle.answers.specs.declared.cases.Following.{Following}
-use Rattle.answers.specs.declared.cases.Following.TheVariants as following
 use Rattle.answers.specs.declared.replies.Reply.{Reply}
-use Rattle.answers.specs.Replies.{refusal_number, answer_reply, ask_reply, next_reply}
+use Rattle.answers.specs.Replies.{refusal_number, Answer, answer_reply, ask_reply, next_reply}
 
 -- the refusals in the order of their numbers, from 1 on
 abbrev refusals : List Refusal
@@ -62,26 +60,26 @@ refusal-positive r = go (refusal_number r) (refusal-again {A = ℕ} r 0 (λ _. 1
 
 -- the answer that a reply comes from
 abbrev answer_of : Reply → Answer
-answer_of o = numbered o.number (answer.Done o.value) answer.Refused
+answer_of o = numbered o.number (Ok o.value) Err
 
-abbrev asked_of : Reply → Asked
-asked_of o = numbered o.number (cond (eqb o.value 1) (asked.OnList o.second) (asked.NotOnList o.second)) asked.Refused
+abbrev asked_of : Reply → Result Asked Refusal
+asked_of o = numbered o.number (Ok (cond (eqb o.value 1) (asked.OnList o.second) (asked.NotOnList o.second))) Err
 
-abbrev following_of : Reply → Following
-following_of o = numbered o.number (following.Letters o.value o.second) following.Refused
+abbrev following_of : Reply → Result Following Refusal
+following_of o = numbered o.number (Ok (record { set = o.value; count = o.second })) Err
 
 answer-again : (a : Answer) → answer_of (answer_reply a) ≡ a
-answer-again (answer.Done value) = refl
-answer-again (answer.Refused r) = refusal-again r _ _
+answer-again (Ok value) = refl
+answer-again (Err r) = refusal-again r _ _
 
-asked-again : (a : Asked) → asked_of (ask_reply a) ≡ a
-asked-again (asked.OnList followed) = refl
-asked-again (asked.NotOnList followed) = refl
-asked-again (asked.Refused r) = refusal-again r _ _
+asked-again : (a : Result Asked Refusal) → asked_of (ask_reply a) ≡ a
+asked-again (Ok (asked.OnList followed)) = refl
+asked-again (Ok (asked.NotOnList followed)) = refl
+asked-again (Err r) = refusal-again r _ _
 
-following-again : (a : Following) → following_of (next_reply a) ≡ a
-following-again (following.Letters set number) = refl
-following-again (following.Refused r) = refusal-again r _ _
+following-again : (a : Result Following Refusal) → following_of (next_reply a) ≡ a
+following-again (Ok following) = refl
+following-again (Err r) = refusal-again r _ _
 
 -- what is found again from what it gives is the only one that gives that
 only_one : {A B : Type 0} (gives : A → B) (back : B → A) → ((a : A) → back (gives a) ≡ a) → (a b : A) → gives a ≡ gives b → a ≡ b
@@ -91,8 +89,8 @@ only_one gives back again a b e = cc (again a, again b)
 pub answer-one : (a b : Answer) → answer_reply a ≡ answer_reply b → a ≡ b
 answer-one = only_one answer_reply answer_of answer-again
 
-pub ask-one : (a b : Asked) → ask_reply a ≡ ask_reply b → a ≡ b
+pub ask-one : (a b : Result Asked Refusal) → ask_reply a ≡ ask_reply b → a ≡ b
 ask-one = only_one ask_reply asked_of asked-again
 
-pub next_one : (a b : Following) → next_reply a ≡ next_reply b → a ≡ b
+pub next_one : (a b : Result Following Refusal) → next_reply a ≡ next_reply b → a ≡ b
 next_one = only_one next_reply following_of following-again

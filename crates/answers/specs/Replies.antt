@@ -1,15 +1,12 @@
 -- The number and the values of every case of an answer. Assumes nothing.
-use Rattle.std.specs.Prelude.{ℕ}
+use Rattle.std.specs.Prelude.{ℕ, Result, Ok, Err}
 use Rattle.model.specs.Call.{Outcome}
 use Rattle.answers.specs.declared.cases.Refusal.{Refusal}
 use Rattle.answers.specs.declared.cases.Refusal.TheVariants.{Length, Mission, Operation, Name, List, Buffer}
 use Rattle.answers.specs.declared.cases.Refusal.TheVariants.{NotSound, NotEmpty, TooMany, NotUnder, NoRoom}
-use Rattle.answers.specs.declared.cases.Answer.{Answer}
-use Rattle.answers.specs.declared.cases.Answer.TheVariants as answer
 use Rattle.answers.specs.declared.cases.Asked.{Asked}
 use Rattle.answers.specs.declared.cases.Asked.TheVariants as asked
 use Rattle.answers.specs.declared.cases.Following.{Following}
-use Rattle.answers.specs.declared.cases.Following.TheVariants as following
 use Rattle.answers.specs.declared.replies.Reply.{Reply}
 
 -- 01, "Refusal numbers"
@@ -37,20 +34,24 @@ done_reply value = done_both value 0
 abbrev pub refused_reply : Refusal → Reply
 refused_reply r = record { number = refusal_number r; value = 0; second = 0 }
 
+-- an answer: its value, or why the call was refused
+abbrev pub Answer : Type 0
+Answer = Result ℕ Refusal
+
 abbrev pub answer_reply : Answer → Reply
-answer_reply (answer.Done value) = done_reply value
-answer_reply (answer.Refused r) = refused_reply r
+answer_reply (Ok value) = done_reply value
+answer_reply (Err r) = refused_reply r
 
 -- "ask 1 or 0." 02, wish 1: "ask shall also report the arcs it followed."
-abbrev pub ask_reply : Asked → Reply
-ask_reply (asked.OnList followed) = done_both 1 followed
-ask_reply (asked.NotOnList followed) = done_both 0 followed
-ask_reply (asked.Refused r) = refused_reply r
+abbrev pub ask_reply : Result Asked Refusal → Reply
+ask_reply (Ok (asked.OnList followed)) = done_both 1 followed
+ask_reply (Ok (asked.NotOnList followed)) = done_both 0 followed
+ask_reply (Err r) = refused_reply r
 
 -- next's values: the letters that may follow as a sum, and their number
-abbrev pub next_reply : Following → Reply
-next_reply (following.Letters set count) = done_both set count
-next_reply (following.Refused r) = refused_reply r
+abbrev pub next_reply : Result Following Refusal → Reply
+next_reply (Ok following) = done_both following.set following.count
+next_reply (Err r) = refused_reply r
 
 -- what the model says
 abbrev pub reply_of : Outcome → Reply

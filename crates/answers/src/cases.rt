@@ -1,7 +1,7 @@
 // What the calls answer. specs/Replies.antt gives 01's number and values for every case.
 
 // Why a call was refused, in the order of 01's "Refusal numbers", from 1 to 11.
-#[derive(Clone, Copy)]
+#[derive(Clone, Copy, Debug, PartialEq, Eq)]
 pub enum Refusal {
     // "slice length not 40k with k from 27 to 1,026"
     Length,
@@ -28,23 +28,18 @@ pub enum Refusal {
 }
 
 // "Each call answers a number and a value."
-#[derive(Clone, Copy)]
-pub enum Answer {
-    Done(u32),
-    Refused(Refusal),
-}
+pub type Answer = Result<u32, Refusal>;
 
 // ask: "is a name on a mission's list?" And "the arcs it followed".
-#[derive(Clone, Copy)]
+#[derive(Clone, Copy, Debug, PartialEq, Eq)]
 pub enum Asked {
     OnList(u32),
     NotOnList(u32),
-    Refused(Refusal),
 }
 
 // next: "which letters may follow", as a set, and their number.
-#[derive(Clone, Copy)]
-pub enum Following {
-    Letters { set: u64, count: u32 },
-    Refused(Refusal),
+#[derive(Clone, Copy, Debug, PartialEq, Eq)]
+pub struct Following {
+    pub set: u64,
+    pub count: u32,
 }

@@ -51,30 +51,36 @@ fn done(value: u64, second: u32) -> Reply
     }
 }
 
-pub fn answer_reply(a: Answer) -> Reply
-    ensures { result ≡ answer_reply a }
-{
-    match a {
-        Answer::Done(value) => done(value as u64, 0),
-        Answer::Refused(r) => refused(r),
+impl From<Answer> for Reply {
+    ghost from_gives = { λ a r. r ≡ answer_reply a };
+
+    fn from(a: Answer) -> Reply {
+        match a {
+            Ok(value) => done(value as u64, 0),
+            Err(r) => refused(r),
+        }
     }
 }
 
-pub fn ask_reply(a: Asked) -> Reply
-    ensures { result ≡ ask_reply a }
-{
-    match a {
-        Asked::OnList(followed) => done(1, followed),
-        Asked::NotOnList(followed) => done(0, followed),
-        Asked::Refused(r) => refused(r),
+impl From<Result<Asked, Refusal>> for Reply {
+    ghost from_gives = { λ a r. r ≡ ask_reply a };
+
+    fn from(a: Result<Asked, Refusal>) -> Reply {
+        match a {
+            Ok(Asked::OnList(followed)) => done(1, followed),
+            Ok(Asked::NotOnList(followed)) => done(0, followed),
+            Err(r) => refused(r),
+        }
     }
 }
 
-pub fn next_reply(a: Following) -> Reply
-    ensures { result ≡ next_reply a }
-{
-    match a {
-        Following::Letters { set, count } => done(set, count),
-        Following::Refused(r) => refused(r),
+impl From<Result<Following, Refusal>> for Reply {
+    ghost from_gives = { λ a r. r ≡ next_reply a };
+
+    fn from(a: Result<Following, Refusal>) -> Reply {
+        match a {
+            Ok(Following { set, count }) => done(set, count),
+            Err(r) => refused(r),
+        }
     }
 }

@@ -7,6 +7,7 @@ use mathlib.Core.List.{List}
 use lib.Dec.{ltb}
 use lib.ListN.{length}
 use borrow.Author.Tests.{le-leb}
+use Rattle.std.specs.Prelude.{Ok, Err}
 use Rattle.sets.specs.Sets.{Words}
 use Rattle.sets.specs.Residuals.{need}
 use Rattle.model.specs.Lists.{list_of, replace}
@@ -23,9 +24,7 @@ use Rattle.minimal.proofs.Theorems.{used-need}
 use Rattle.settling.specs.Settled.{fits, Changed}
 use Rattle.answers.specs.declared.cases.Refusal.{Refusal}
 use Rattle.answers.specs.declared.cases.Refusal.TheVariants.{NoRoom}
-use Rattle.answers.specs.declared.cases.Answer.{Answer}
-use Rattle.answers.specs.declared.cases.Answer.TheVariants as answer
-use Rattle.answers.specs.Replies.{refusal_number, answer_reply, reply_of}
+use Rattle.answers.specs.Replies.{refusal_number, Answer, answer_reply, reply_of}
 use Rattle.promises.specs.Books.{book_of}
 use Rattle.promises.specs.Promises.{Changes}
 use Rattle.ending.specs.Ending.{settled_answer}
@@ -37,11 +36,11 @@ unchanged t call a answers same =
     record { answers = answers; becomes = record { same = λ _. refl; long = refl; sound = λ s. s; lists = sym same } }
 
 pub refused-changes : (t : Table) (call : Call) (r : Refusal) → run (book_of t) call ≡ refused (refusal_number r) (book_of t)
-    → Changes t t call (answer_reply (answer.Refused r))
-refused-changes t call r e = unchanged t call (answer.Refused r) (rw e) (rw e)
+    → Changes t t call (answer_reply (Err r))
+refused-changes t call r e = unchanged t call (Err r) (rw e) (rw e)
 
-pub same-changes : (t : Table) (call : Call) → run (book_of t) call ≡ leaves (lists t) 0 → Changes t t call (answer_reply (answer.Done 0))
-same-changes t call e = unchanged t call (answer.Done 0) (rw e) (rw e)
+pub same-changes : (t : Table) (call : Call) → run (book_of t) call ≡ leaves (lists t) 0 → Changes t t call (answer_reply (Ok 0))
+same-changes t call e = unchanged t call (Ok 0) (rw e) (rw e)
 
 -- there is room for the lists as they are
 pub same-fits : (t : Table) → sound t ≡ true → (m : ℕ) → fits t m (list_of (lists t) m) ≡ true
@@ -59,7 +58,7 @@ fits-or-not t m l b answered done e = last-refusal b answered _ done (over-most 
 
 -- done, with these lists; where the value is 0, the table must be the same
 pub done-changes : (t after : Table) (call : Call) (ls : List Words) (value : ℕ) → (value ≡ 0 → after ≡ t) → run (book_of t) call ≡ leaves ls value
-    → length after ≡ length t → sound after ≡ true → lists after ≡ ls → Changes t after call (answer_reply (answer.Done value))
+    → length after ≡ length t → sound after ≡ true → lists after ≡ ls → Changes t after call (answer_reply (Ok value))
 done-changes t after call ls value same e long fine new =
     record {
       answers = rw e;

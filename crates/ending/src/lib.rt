@@ -12,8 +12,8 @@ pub fn settled(done: bool, value: u32) -> Answer
     ensures { result ≡ settled_answer done value }
 {
     if done {
-        Answer::Done(value)
+        Ok(value)
     } else {
-        Answer::Refused(Refusal::NoRoom)
+        Err(Refusal::NoRoom)
     }
 }

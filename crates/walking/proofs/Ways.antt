@@ -1,46 +1,25 @@
--- The walk over bytes. Step by step: with none left it ends where it is, and else it goes on with the rest from where the first byte leads, or
--- stops there. What it has walked are letters: so all bytes are letters if those that are left are, and then it is the walk of their word.
--- Assumes nothing.
-use Prim.Native.Nat.{ℕ, suc, ◌-◌, ◌≤◌, ◌<◌}
+-- The walk over bytes. What it has walked are letters: so all bytes are letters if those that are left are, and then it is the walk of their
+-- word. Assumes nothing.
+use Prim.Native.Nat.{ℕ, suc, ◌-◌, ◌≤◌}
 use native.Mathlib.Omega.{arith}
 use mathlib.Core.Path.{◌≡◌, refl, sym, ◌∙◌, ap}
 use mathlib.Core.Bool.{Bool, true, false, ◌&&◌, false≢true, and-eq-true_iff}
 use mathlib.Core.List.{List, [], ◌∷◌}
 use lib.Dec.{ltb}
-use lib.ListN.{length, get_or, take, drop, length-drop, length-map}
+use lib.ListN.{length, take, drop, length-drop, length-map}
 use lib.Seq.{take_all}
 use Rattle.letters.specs.Letters.{letters, letter}
-use Rattle.letters.specs.Words.{word_of, rest}
+use Rattle.letters.specs.Words.{word_of}
 use Rattle.letters.specs.Names.{spelled}
 use Rattle.letters.proofs.Tests.{by-test}
-use Rattle.letters.proofs.Words.{all_left}
 use Rattle.sets.proofs.Membership.{fails}
 use Rattle.rows.specs.Table.{Table, is_row, start, target}
 use Rattle.rows.specs.Walk.{walk_from, followed as arcs_followed}
 use Rattle.rows.proofs.Walk.{walk_none, walk-empty, walk-on, walk-stops}
+use Rattle.std.specs.Prelude.{Option, Some, None}
 use Rattle.walking.specs.declared.walk.Way.{Way}
 use Rattle.walking.specs.declared.walk.Walked.{Walked}
-use Rattle.walking.specs.declared.walk.Walked.TheVariants.{Ended, NoWord}
 use Rattle.walking.specs.Ways.{leads_to, way, way_from, walked}
-
--- ---- the steps of the loop
-
-module _ (t : Table) (r : ℕ) where
-  pub way_end : (bytes : List ℕ) → bytes ≡ [] → way t bytes r ≡ record { row = r; left = 0 }
-  unfolding way
-  way_end bytes e = rw e
-
-  pub way_on : (bytes : List ℕ) → 0 < length bytes → is_row t (leads_to t r (get_or bytes 0 0)) ≡ true
-      → way t bytes r ≡ way t (rest bytes) (leads_to t r (get_or bytes 0 0))
-  unfolding way
-  way_on [] some on = absurd (omega arith)
-  way_on (b ∷ bytes) some on = rw (on, all_left b bytes)
-
-  pub way-stops : (bytes : List ℕ) → 0 < length bytes → is_row t (leads_to t r (get_or bytes 0 0)) ≡ false
-      → way t bytes r ≡ record { row = 0; left = length bytes }
-  unfolding way
-  way-stops [] some stops = absurd (omega arith)
-  way-stops (b ∷ bytes) some stops = rw stops
 
 -- ---- what the end tells
 
@@ -119,30 +98,26 @@ way-ends t bytes n =
 
 -- ---- what is told of a word
 
-abbrev has_ended : Walked → Bool
-has_ended (Ended row followed) = true
-has_ended NoWord = false
-
 -- the walk of the word is this
 pub record WordEnds (t : Table) (m : ℕ) (bytes : List ℕ) (long : Bool) (row followed : ℕ) : Type 0 where
   pub fine : (long && spelled bytes) ≡ true
   pub at : row ≡ (walk_from t (word_of bytes) (start t m)).row
   pub arcs : followed ≡ arcs_followed t (word_of bytes) (start t m)
 
-module _ (t : Table) (m : ℕ) (bytes : List ℕ) {told : Walked} {asked long : Bool} (walk : told ≡ walked t m bytes asked) (same : asked ≡ long) where
+module _ (t : Table) (m : ℕ) (bytes : List ℕ) {told : Option Walked} {asked long : Bool} (walk : told ≡ walked t m bytes asked) (same : asked ≡ long) where
   abbrev end : Walked
-  end = let w = word_of bytes in Ended (walk_from t w (start t m)).row (arcs_followed t w (start t m))
+  end = let w = word_of bytes in record { row = (walk_from t w (start t m)).row; followed = arcs_followed t w (start t m) }
 
   said : told ≡ walked t m bytes long
   said = rw same at walk
 
-  pub word-ends : (row followed : ℕ) → told ≡ Ended row followed → WordEnds t m bytes long row followed
-  word-ends row followed e =
+  pub word-ends : (w : Walked) → told ≡ Some w → WordEnds t m bytes long w.row w.followed
+  word-ends w e =
       by-test (long && spelled bytes)
-      (λ fine. let this : end ≡ Ended row followed = rw fine at (sym said ∙ e) in record { fine = fine; at = cc this; arcs = cc this })
-      (λ bad. let this : NoWord ≡ Ended row followed = rw bad at (sym said ∙ e) in absurd (false≢true (ap has_ended this)))
+      (λ fine. let this : Some end ≡ Some w = rw fine at (sym said ∙ e) in record { fine = fine; at = cc this; arcs = cc this })
+      (λ bad. let this : None ≡ Some w = rw bad at (sym said ∙ e) in cc this)
 
-  pub no_word : told ≡ NoWord → (long && spelled bytes) ≡ false
+  pub no_word : told ≡ None → (long && spelled bytes) ≡ false
   no_word e =
       fails (long && spelled bytes)
-      (λ fine. let this : end ≡ NoWord = rw fine at (sym said ∙ e) in false≢true (sym (ap has_ended this)))
+      (λ fine. let this : Some end ≡ None = rw fine at (sym said ∙ e) in cc this)

@@ -11,7 +11,8 @@ ghost use Rattle.walking.specs.Ways.{leads_to, way, way_from, walked};
 use letters::{LETTERS, is_spelled, letter_of, with_letter};
 use rows::{is_row, mark, start, target};
 
-// How far the walk of some bytes gets: the row where it ends, or 0 where it stops, and how many bytes are left there.
+// How far the walk of some bytes gets: the row where it ends, or 0 where it stops, as the table itself says "no row";
+// and how many bytes are left there.
 #[derive(Clone, Copy)]
 struct Way {
     row: usize,
@@ -38,8 +39,8 @@ fn walk_from(t: &[u16], first: usize, word: &[u8]) -> Way
 {
     let mut row = first;
     let mut left = word;
-    while left.len() != 0 {
-        let next = leads_to(t, row, left[0]);
+    while let Some((b, rest)) = left.split_first() {
+        let next = leads_to(t, row, *b);
         if !is_row(t, next) {
             return Way {
                 row: 0,
@@ -47,7 +48,7 @@ fn walk_from(t: &[u16], first: usize, word: &[u8]) -> Way
             };
         }
         row = next;
-        left = &left[1..];
+        left = rest;
     }
     Way { row, left: 0 }
 }
@@ -67,32 +68,32 @@ fn walk_list(t: &[u16], m: usize, word: &[u8]) -> Way
     walk_from(t, first, word)
 }
 
-// Where the walk of a word ends, a row or 0 for none, and "the arcs it followed". Bytes are no word if they are not
-// as long as they may be, or one of them is no letter.
+// Where the walk of a word ends, a row or 0 for none, and "the arcs it followed".
 #[derive(Clone, Copy)]
-pub enum Walked {
-    Ended { row: usize, followed: usize },
-    NoWord,
+pub struct Walked {
+    pub row: usize,
+    pub followed: usize,
 }
 
-// The walk of a word from a mission's start. A byte that is no letter stops it, so that it is among those that are
-// left; these are looked through behind the walk.
-pub fn walk_word(t: &[u16], m: usize, word: &[u8], long: bool) -> Walked
+// The walk of a word from a mission's start, or None where the bytes are no word: they are not as long as they may be,
+// or one of them is no letter. A byte that is no letter stops the walk, so that it is among those that are left; these
+// are looked through behind the walk.
+pub fn walk_word(t: &[u16], m: usize, word: &[u8], long: bool) -> Option<Walked>
     requires { m < length t.now }
     ensures { result ≡ walked t.now m word.now long }
 {
     if !long {
-        return Walked::NoWord;
+        return None;
     }
     let way = walk_list(t, m, word);
     let followed = word.len() - way.left;
     if !is_spelled(&word[followed..]) {
-        return Walked::NoWord;
+        return None;
     }
-    Walked::Ended {
+    Some(Walked {
         row: way.row,
         followed,
-    }
+    })
 }
 
 // May a name end at n?
@@ -134,10 +135,8 @@ pub fn letter_set(t: &[u16], n: usize) -> u64
         return 0;
     }
     let mut set = 0u64;
-    let mut x = 0;
-    while x < LETTERS {
+    for x in 0..LETTERS {
         set = with_arc(t, n, x, set);
-        x += 1;
     }
     set
 }

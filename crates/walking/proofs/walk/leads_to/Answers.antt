@@ -1,7 +1,7 @@
 -- `leads_to` meets its promise: the branch has settled whether the byte is a letter. Assumes nothing.
 use Prim.Native.Nat.{ℕ, ◌<◌}
 use native.Mathlib.Omega.{arith}
-use mathlib.Core.Path.{sym, ◌∙◌, ap}
+use mathlib.Core.Path.{◌∙◌, ap}
 use borrow.Author.Tests.{lt-ltb}
 use Rattle.letters.specs.Letters.{letters, letter}
 use Rattle.letters.proofs.Laws.{letter-le}
@@ -9,9 +9,6 @@ use Rattle.rows.specs.Table.{target}
 use Rattle.rows.proofs.Facts.{row_inside}
 use Rattle.walking.proofs.walk.leads_to.Goals as goal
 use Rattle.walking.proofs.walk.leads_to.Goals.{Else-x-eq-LETTERS}
-
-pub returns-then-x-eq-LETTERS : goal.returns-then-x-eq-LETTERS
-returns-then-x-eq-LETTERS c = rw (sym c.letter_of-x.ensures ∙ c.if-x-eq-LETTERS.true)
 
 small : (c : Else-x-eq-LETTERS) → letter c.args.b < letters
 small c = omega (arith, letter-le c.args.b, c.letter_of-x.ensures, c.if-x-eq-LETTERS.false)

@@ -1,4 +1,4 @@
-use mathlib.Core.Path.{◌≡◌, refl, sym, ◌∙◌}
+use mathlib.Core.Path.{refl, sym, ◌∙◌}
 use native.Mathlib.Numerals.{add-one}
 use native.Mathlib.Omega.{arith}
 use Rattle.letters.specs.Letters.{letters}
@@ -24,9 +24,3 @@ with_arc-set-requires c =
 pub loop-x-preserved : goal.loop-x-preserved
 unfolding sum_of
 loop-x-preserved c = (omega arith, c.with_arc-set.ensures ∙ rw (add-one, c.loop-x.invariant.1))
-
-pub returns : goal.returns
-returns c =
-    let l = c.loop-x in
-    let all : l.x ≡ letters = omega arith in
-    l.invariant.1 ∙ rw all

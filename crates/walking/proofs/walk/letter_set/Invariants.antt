@@ -1,6 +1,5 @@
--- `letter_set` meets its promise. The loop's invariant: `set` has the letters below `x` that have an arc. The measure is the letters that are
--- left. Assumes nothing.
-use Prim.Native.Nat.{◌-◌, ◌≤◌}
+-- `letter_set` meets its promise. The loop's invariant: `set` has the letters below `x` that have an arc. Assumes nothing.
+use Prim.Native.Nat.{◌≤◌}
 use mathlib.Core.Path.{◌≡◌}
 use Rattle.letters.specs.Letters.{letters}
 use Rattle.letters.specs.LetterSet.{sum_of}
@@ -9,6 +8,3 @@ use Rattle.walking.proofs.walk.letter_set.Given as goal
 
 abbrev pub invariant-loop-x : goal.invariant-loop-x
 invariant-loop-x l = (l.x ≤ letters) × (l.set ≡ sum_of l.x (λ y. has_arc l.t l.n y))
-
-abbrev pub decreases-loop-x : goal.decreases-loop-x
-decreases-loop-x l = letters - l.x

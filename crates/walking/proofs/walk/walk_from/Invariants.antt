@@ -7,8 +7,8 @@ use Rattle.rows.specs.Table.{is_row}
 use Rattle.walking.specs.Ways.{way}
 use Rattle.walking.proofs.walk.walk_from.Given as goal
 
-abbrev pub invariant-loop-left : goal.invariant-loop-left
-invariant-loop-left l = (is_row l.t l.row ≡ true) × (way l.t l.word l.first ≡ way l.t l.left l.row)
+abbrev pub invariant-loop-b : goal.invariant-loop-b
+invariant-loop-b l = (is_row l.t l.row ≡ true) × (way l.t l.word l.first ≡ way l.t l.left l.row)
 
-abbrev pub decreases-loop-left : goal.decreases-loop-left
-decreases-loop-left l = length l.left
+abbrev pub decreases-loop-b : goal.decreases-loop-b
+decreases-loop-b l = length l.left

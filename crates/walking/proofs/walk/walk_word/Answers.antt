@@ -14,9 +14,6 @@ use Rattle.walking.proofs.Ways.{Ends, way-ends}
 use Rattle.walking.proofs.walk.walk_word.Goals as goal
 use Rattle.walking.proofs.walk.walk_word.Goals.{After-is_spelled, After-walk_list-way, Else-not-long}
 
-pub returns-then-not-long : goal.returns-then-not-long
-returns-then-not-long c = rw c.if-not-long.true
-
 long : (c : Else-not-long) → c.args.long ≡ true
 long c = c.if-not-long.false
 
