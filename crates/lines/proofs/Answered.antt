@@ -1,5 +1,6 @@
 -- A line that asks for a call is answered by what the call replies, which the table before it tells; and the names that follow are those before
 -- the call: where some follow, the call only counts. Both are written to the front of the buffer, the names behind the answer. Assumes nothing.
+use Rattle.std.specs.Prelude.{Some, None}
 use Prim.Native.Nat.{ℕ, ◌+◌, ◌-◌, ◌≤◌}
 use native.Mathlib.Omega.{arith}
 use mathlib.Core.Path.{◌≡◌, refl, ◌∙◌}
@@ -14,13 +15,11 @@ use Rattle.printing.specs.Printed.{answer_line}
 use Rattle.printing.proofs.Buffers.{Wrote, overlaid-wrote, overlaid-long, wrote-part, lent, back, length-lent}
 use Rattle.lines.specs.declared.requests.Kind.{Kind}
 use Rattle.lines.specs.declared.requests.Kind.TheVariants.{Add, Remove, Ask, Count}
-use Rattle.lines.specs.declared.requests.Request.{Request}
-use Rattle.lines.specs.declared.requests.Request.TheVariants as request
-use Rattle.lines.specs.Requests.{name_of, request_of, call_of}
+use Rattle.lines.specs.Requests.{Request, name_of, request_of, call_of}
 use Rattle.lines.specs.Promises.{said_to, RequestLeaves, Answered, written_behind, printed_for}
 
 pub call-answered : {t after : Table} {line : List ℕ} {kind : Kind} {m n k : ℕ} {before filled : List ℕ} (reply : Reply)
-    → request_of line ≡ request.Call kind m → Promised t after [] [] (call_of kind m (name_of line)) reply
+    → request_of line ≡ Some (kind, m) → Promised t after [] [] (call_of kind m (name_of line)) reply
     → k ≡ length (answer_line line reply.number reply.value) → filled ≡ overlaid (answer_line line reply.number reply.value) before
     → Answered t after line n before filled k
 call-answered {t} {after} {line} {kind} {m} reply asked p long buffer =
@@ -33,11 +32,11 @@ call-answered {t} {after} {line} {kind} {m} reply asked p long buffer =
 
 pub behind-stays : (t after : Table) (line : List ℕ) (size : ℕ) (asked : Request) → RequestLeaves t after line asked
     → written_behind (book_of after) asked size ≡ written_behind (book_of t) asked size
-behind-stays t after line size (request.Call Add m) p = refl
-behind-stays t after line size (request.Call Remove m) p = refl
-behind-stays t after line size (request.Call Ask m) p = refl
-behind-stays t after line size (request.Call Count m) p = rw p.table
-behind-stays t after line size request.Other same = refl
+behind-stays t after line size (Some (Add, m)) p = refl
+behind-stays t after line size (Some (Remove, m)) p = refl
+behind-stays t after line size (Some (Ask, m)) p = refl
+behind-stays t after line size (Some (Count, m)) p = rw p.table
+behind-stays t after line size None same = refl
 
 -- what is said is within the buffer, and behind it are the names
 module _ {t after : Table} {line : List ℕ} {n k : ℕ} {before filled : List ℕ} (p : Answered t after line n before filled k) where

@@ -1,6 +1,7 @@
 -- The names that follow a line: what the call write puts behind the answer are all of them. A list that the desk's input can make has no more bytes
 -- than were read, since every name on it came in a line of its own. So it is short enough to be counted, and to be written behind the answer.
 -- Assumes nothing.
+use Rattle.std.specs.Prelude.{Some, None}
 use Prim.Native.Nat.{ℕ, zero, suc, ◌+◌, ◌-◌, ◌^◌, ◌≤◌, ◌<◌, Ordering}
 use native.Mathlib.Omega.{arith}
 use native.Mathlib.Decide.{dec_lt}
@@ -36,16 +37,14 @@ use Rattle.printing.specs.Printed.{answer_line, spare}
 use Rattle.printing.proofs.Decimal.{field-short}
 use Rattle.lines.specs.declared.requests.Kind.{Kind}
 use Rattle.lines.specs.declared.requests.Kind.TheVariants.{Add, Remove, Ask, Count}
-use Rattle.lines.specs.declared.requests.Request.{Request}
-use Rattle.lines.specs.declared.requests.Request.TheVariants as request
-use Rattle.lines.specs.Requests.{name_of, request_of, call_of}
+use Rattle.lines.specs.Requests.{Request, name_of, request_of, call_of}
 use Rattle.lines.specs.Promises.{said, said_to, names_behind, written_behind}
 use Rattle.lines.specs.Steps.{most_input, most_output}
 use Rattle.lines.specs.Sessions.{lists_after_line}
 
 -- nothing is written behind a line of another kind
 pub others-none : (b : Book) (m size : ℕ) (kind : Kind) → (kind ≡ Add) ⊎ ((kind ≡ Remove) ⊎ (kind ≡ Ask))
-    → written_behind b (request.Call kind m) size ≡ []
+    → written_behind b (Some (kind, m)) size ≡ []
 others-none b m size Add other = refl
 others-none b m size Remove other = refl
 others-none b m size Ask other = refl
@@ -113,21 +112,21 @@ module _ (b : Book) (text : List ℕ) (n : ℕ) (held : Held n b.lists) where
 
   pub held_after : (asked : Request) → Held later (lists_after_line b text asked)
   unfolding delete
-  held_after (request.Call Add m) =
+  held_after (Some (Add, m)) =
       let l = list_of b.lists m in
       let w = word_of (name_of text) in
       let long : length w ≤ length text = simp (length-map, length-drop) (omega arith) in
       by-rule Add m
       (replace-each (λ l. length (lines l) ≤ later) b.lists m (insert w l) kept
       (omega (arith, with-name w l, held-list b.lists held m, line-long w)))
-  held_after (request.Call Remove m) =
+  held_after (Some (Remove, m)) =
       let l = list_of b.lists m in
       by-rule Remove m
       (replace-each (λ l. length (lines l) ≤ later) b.lists m (delete (word_of (name_of text)) l) kept
       (omega (arith, some-names (λ v. not (same v (word_of (name_of text)))) l, held-list b.lists held m)))
-  held_after (request.Call Ask m) = by-rule Ask m kept
-  held_after (request.Call Count m) = by-rule Count m kept
-  held_after request.Other = kept
+  held_after (Some (Ask, m)) = by-rule Ask m kept
+  held_after (Some (Count, m)) = by-rule Count m kept
+  held_after None = kept
 
 -- ---- so all that follow are written
 
@@ -162,7 +161,7 @@ module _ (t : Table) (s : sound t ≡ true) (text : List ℕ) (n at size : ℕ) 
 
     -- so many bytes are left behind the answer
     abbrev rest : ℕ
-    rest = size - length (said (outcome_of t) text n (request.Call Count m))
+    rest = size - length (said (outcome_of t) text n (Some (Count, m)))
 
     fits : m < missions → length (lines l) ≤ rest
     fits h =
@@ -172,13 +171,13 @@ module _ (t : Table) (s : sound t ≡ true) (text : List ℕ) (n at size : ℕ) 
         omega (arith, answer-short (run (book_of t) (count m)).number (run (book_of t) (count m)).value (omega arith) (omega arith), short)
 
     -- what follows by the count, and what was written
-    named : (o : Outcome) → run (book_of t) (count m) ≡ o → names_behind (book_of t) (request.Call Count m) ≡ cond (eqb o.number 0) l []
+    named : (o : Outcome) → run (book_of t) (count m) ≡ o → names_behind (book_of t) (Some (Count, m)) ≡ cond (eqb o.number 0) l []
     named o e = ap (λ (o : Outcome). cond (eqb o.number 0) l []) e
 
-    wrote : (o : Outcome) → run (book_of t) (write m rest) ≡ o → written_behind (book_of t) (request.Call Count m) rest ≡ o.written
+    wrote : (o : Outcome) → run (book_of t) (write m rest) ≡ o → written_behind (book_of t) (Some (Count, m)) rest ≡ o.written
     wrote o e = ap (λ (o : Outcome). o.written) e
 
-    counted : written_behind (book_of t) (request.Call Count m) rest ≡ lines (names_behind (book_of t) (request.Call Count m))
+    counted : written_behind (book_of t) (Some (Count, m)) rest ≡ lines (names_behind (book_of t) (Some (Count, m)))
     unfolding lines
     counted =
         elim (dec_lt m missions) [
@@ -188,11 +187,11 @@ module _ (t : Table) (s : sound t ≡ true) (text : List ℕ) (n at size : ℕ) 
 
   behind-all : (asked : Request) → written_behind (book_of t) asked (size - length (said (outcome_of t) text n asked)) ≡ lines (names_behind (book_of t) asked)
   unfolding lines
-  behind-all (request.Call Add m) = refl
-  behind-all (request.Call Remove m) = refl
-  behind-all (request.Call Ask m) = refl
-  behind-all (request.Call Count m) = counted m
-  behind-all request.Other = refl
+  behind-all (Some (Add, m)) = refl
+  behind-all (Some (Remove, m)) = refl
+  behind-all (Some (Ask, m)) = refl
+  behind-all (Some (Count, m)) = counted m
+  behind-all None = refl
 
   pub all-written : written_behind (book_of t) (request_of text) (size - length (said_to t text n)) ≡ lines (names_behind (book_of t) (request_of text))
   all-written = behind-all (request_of text)

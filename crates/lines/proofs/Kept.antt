@@ -1,4 +1,5 @@
 -- A line on a sound book: the book stays sound, its lists are the model's, and what is said is what sixteen plain sets say. Assumes nothing.
+use Rattle.std.specs.Prelude.{Some, None}
 use Prim.Native.Nat.{ℕ}
 use mathlib.Core.Path.{◌≡◌, refl, ap}
 use mathlib.Core.Bool.{true}
@@ -13,9 +14,7 @@ use Rattle.promises.specs.Books.{book_of}
 use Rattle.promises.specs.Promises.{outcome_of, reply_to}
 use Rattle.promises.proofs.AnyCalls.{kept}
 use Rattle.printing.specs.Printed.{answer_line}
-use Rattle.lines.specs.declared.requests.Request.{Request}
-use Rattle.lines.specs.declared.requests.Request.TheVariants as request
-use Rattle.lines.specs.Requests.{name_of, call_of}
+use Rattle.lines.specs.Requests.{Request, name_of, call_of}
 use Rattle.lines.specs.Promises.{said, RequestLeaves}
 use Rattle.lines.specs.Sessions.{lists_after_line}
 
@@ -26,7 +25,7 @@ pub record Kept (t after : Table) (line : List ℕ) (n : ℕ) (asked : Request) 
   pub told : said (outcome_of t) line n asked ≡ said (run (book_of t)) line n asked
 
 pub line_kept : (t after : Table) (line : List ℕ) (n : ℕ) (asked : Request) → sound t ≡ true → RequestLeaves t after line asked → Kept t after line n asked
-line_kept t after line n (request.Call kind m) s p =
+line_kept t after line n (Some (kind, m)) s p =
     let call = call_of kind m (name_of line) in
     let k = kept t after [] [] call (reply_to t call) s p in
     record {
@@ -35,5 +34,5 @@ line_kept t after line n (request.Call kind m) s p =
       names = k.names;
       told = ap (λ (r : Reply). answer_line line r.number r.value) k.said;
     }
-line_kept t after line n request.Other s same =
+line_kept t after line n None s same =
     record { fine = rw same s; long = rw same; names = rw same; told = refl }

@@ -1,5 +1,6 @@
 -- Any two outcomes of `step` that satisfy its promise lead to the same place and leave the same buffer; their tables are the same number for number,
 -- but for a call that a line asks for, where they are the same as two outcomes of the call are. Assumes nothing.
+use Rattle.std.specs.Prelude.{Some, None}
 use Prim.Native.Nat.{ℕ}
 use mathlib.Core.Path.{◌≡◌, sym, ◌∙◌}
 use mathlib.Core.List.{List, []}
@@ -7,21 +8,19 @@ use lib.ListN.{length}
 use Rattle.rows.specs.Table.{Table}
 use Rattle.promises.specs.Promises.{reply_to}
 use Rattle.promises.proofs.Tight.{promised-tight}
-use Rattle.lines.specs.declared.requests.Request.{Request}
-use Rattle.lines.specs.declared.requests.Request.TheVariants as request
 use Rattle.lines.specs.declared.steps.Place.{Place}
 use Rattle.lines.specs.declared.steps.Stage.{Stage}
 use Rattle.lines.specs.declared.steps.Stage.TheVariants.{Over, Long, First, Line}
-use Rattle.lines.specs.Requests.{name_of, request_of, call_of}
+use Rattle.lines.specs.Requests.{Request, name_of, request_of, call_of}
 use Rattle.lines.specs.Promises.{RequestLeaves}
 use Rattle.lines.specs.Steps.{line_at, stage_of, StageLeaves, Steps, RequestTight, StageTight}
 
 request-tight : (t u v : Table) (line : List ℕ) (asked : Request) → RequestLeaves t u line asked → RequestLeaves t v line asked
     → RequestTight t u v line asked
-request-tight t u v line (request.Call kind m) p q =
+request-tight t u v line (Some (kind, m)) p q =
     let call = call_of kind m (name_of line) in
     promised-tight t u v [] [] [] call (reply_to t call) (reply_to t call) p q
-request-tight t u v line request.Other p q = p ∙ sym q
+request-tight t u v line None p q = p ∙ sym q
 
 stage-tight : (t u v : Table) (input : List ℕ) (place : Place) (stage : Stage)
     → StageLeaves t u input place stage → StageLeaves t v input place stage → StageTight t u v input place stage

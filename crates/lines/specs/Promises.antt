@@ -1,5 +1,5 @@
 -- What is said to a line, and which names follow. Assumes nothing.
-use Rattle.std.specs.Prelude.{ℕ, ◌-◌, ◌≡◌, cond, List, [], ◌++◌, eqb, length}
+use Rattle.std.specs.Prelude.{Some, None, ℕ, ◌-◌, ◌≡◌, cond, List, [], ◌++◌, eqb, length}
 use Rattle.sets.specs.Sets.{Words}
 use Rattle.model.specs.Lists.{list_of}
 use Rattle.model.specs.Call.{Call, Book, Outcome, overlaid}
@@ -10,14 +10,12 @@ use Rattle.promises.specs.Books.{book_of}
 use Rattle.promises.specs.Promises.{Promised, outcome_of, reply_to}
 use Rattle.printing.specs.Printed.{answer_line, other_line}
 use Rattle.lines.specs.declared.requests.Kind.TheVariants.{Add, Remove, Ask, Count}
-use Rattle.lines.specs.declared.requests.Request.{Request}
-use Rattle.lines.specs.declared.requests.Request.TheVariants as request
-use Rattle.lines.specs.Requests.{name_of, request_of, call_of}
+use Rattle.lines.specs.Requests.{Request, name_of, request_of, call_of}
 
 -- what is said to a line, the n-th, by what the call that it asks for comes to; "For any other line" its number
 abbrev pub said : (Call → Outcome) → List ℕ → ℕ → Request → List ℕ
-said outcome line n (request.Call kind m) = let o = outcome (call_of kind m (name_of line)) in answer_line line o.number o.value
-said outcome line n request.Other = other_line n
+said outcome line n (Some (kind, m)) = let o = outcome (call_of kind m (name_of line)) in answer_line line o.number o.value
+said outcome line n None = other_line n
 
 -- what is said to it on a table
 abbrev pub said_to : Table → List ℕ → ℕ → List ℕ
@@ -25,8 +23,8 @@ said_to t line n = said (outcome_of t) line n (request_of line)
 
 -- what it leaves of the table: the call's promise; "For any other line" nothing is done
 abbrev pub RequestLeaves : Table → Table → List ℕ → Request → Type 0
-RequestLeaves t after line (request.Call kind m) = let call = call_of kind m (name_of line) in Promised t after [] [] call (reply_to t call)
-RequestLeaves t after line request.Other = after ≡ t
+RequestLeaves t after line (Some (kind, m)) = let call = call_of kind m (name_of line) in Promised t after [] [] call (reply_to t call)
+RequestLeaves t after line None = after ≡ t
 
 abbrev pub LineLeaves : Table → Table → List ℕ → Type 0
 LineLeaves t after line = RequestLeaves t after line (request_of line)
@@ -39,19 +37,19 @@ pub record Answered (t after : Table) (line : List ℕ) (n : ℕ) (before filled
 
 -- "After `L` with number 0 the names follow in order"
 abbrev pub names_behind : Book → Request → Words
-names_behind b (request.Call Add m) = []
-names_behind b (request.Call Remove m) = []
-names_behind b (request.Call Ask m) = []
-names_behind b (request.Call Count m) = cond (eqb (run b (count m)).number 0) (list_of b.lists m) []
-names_behind b request.Other = []
+names_behind b (Some (Add, m)) = []
+names_behind b (Some (Remove, m)) = []
+names_behind b (Some (Ask, m)) = []
+names_behind b (Some (Count, m)) = cond (eqb (run b (count m)).number 0) (list_of b.lists m) []
+names_behind b None = []
 
 -- what a step prints of them, where so many bytes of the buffer are left: what the call write puts there
 abbrev pub written_behind : Book → Request → ℕ → List ℕ
-written_behind b (request.Call Add m) size = []
-written_behind b (request.Call Remove m) size = []
-written_behind b (request.Call Ask m) size = []
-written_behind b (request.Call Count m) size = (run b (write m size)).written
-written_behind b request.Other size = []
+written_behind b (Some (Add, m)) size = []
+written_behind b (Some (Remove, m)) size = []
+written_behind b (Some (Ask, m)) size = []
+written_behind b (Some (Count, m)) size = (run b (write m size)).written
+written_behind b None size = []
 
 -- what a step prints for a line, the n-th, into so many bytes: what is said to it, and the names that follow
 abbrev pub printed_for : Table → List ℕ → ℕ → ℕ → List ℕ

@@ -1,5 +1,5 @@
 -- What a line asks for. Assumes nothing.
-use Rattle.std.specs.Prelude.{ℕ, ◌+◌, ◌*◌, ◌-◌, Bool, not, cond, ◌&&◌, List, eqb, leb, length, get_or, drop}
+use Rattle.std.specs.Prelude.{Option, Some, None, ℕ, ◌+◌, ◌*◌, ◌-◌, Bool, not, cond, ◌&&◌, List, eqb, leb, length, get_or, drop}
 use Rattle.letters.specs.Each.{some}
 use Rattle.letters.specs.Letters.{within}
 use Rattle.model.specs.Call.{Call}
@@ -7,8 +7,6 @@ use Rattle.model.specs.Call.Call.{ask, add, remove, count}
 use Rattle.printing.specs.Printed.{space}
 use Rattle.lines.specs.declared.requests.Kind.{Kind}
 use Rattle.lines.specs.declared.requests.Kind.TheVariants.{Add, Remove, Ask, Count}
-use Rattle.lines.specs.declared.requests.Request.{Request}
-use Rattle.lines.specs.declared.requests.Request.TheVariants as request
 
 -- how many bytes of a line stand before its name: the kind, a space and two digits, and one space more before a name
 abbrev pub head_length : ℕ
@@ -41,9 +39,13 @@ name_of line = drop name_start line
 abbrev pub has_name : List ℕ → Bool
 has_name line = leb name_start (length line) && (eqb (byte line head_length) space && not (some (λ b. eqb b space) (name_of line)))
 
+-- what a line asks for: a call and its mission, or none
+abbrev pub Request : Type 0
+Request = Option (Kind × ℕ)
+
 -- a request, if the line is of its form
 abbrev pub request_if : Bool → Kind → List ℕ → Request
-request_if fine kind line = cond fine (request.Call kind (mission_of line)) request.Other
+request_if fine kind line = cond fine (Some (kind, mission_of line)) None
 
 -- "A line is `+`, `-`, `?` or `L`, a space, two decimal digits for the mission and, but for `L`, a space and then the name". "They mean add,
 -- remove, ask and count." 0x2B is `+`, 0x2D is `-`, 0x3F is `?`, 0x4C is `L`.
@@ -54,8 +56,8 @@ request_of line =
     (cond (eqb (byte line 0) 0x2D) (request_if (has_name line) Remove line)
     (cond (eqb (byte line 0) 0x3F) (request_if (has_name line) Ask line)
     (cond (eqb (byte line 0) 0x4C) (request_if (eqb (length line) head_length) Count line)
-    request.Other))))
-    request.Other
+    None))))
+    None
 
 -- the call that is asked for
 abbrev pub call_of : Kind → ℕ → List ℕ → Call

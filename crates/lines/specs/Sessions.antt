@@ -1,22 +1,20 @@
 -- What is printed for a whole input, by sixteen plain sets, and by a program that takes step after step. Assumes nothing.
-use Rattle.std.specs.Prelude.{ℕ, suc, ◌+◌, ◌≤◌, ◌≡◌, true, cond, List, [], ◌∷◌, ◌++◌, leb, length, take}
+use Rattle.std.specs.Prelude.{Some, None, ℕ, suc, ◌+◌, ◌≤◌, ◌≡◌, true, cond, List, [], ◌∷◌, ◌++◌, leb, length, take}
 use Rattle.letters.specs.Lists.{lines_of, lines}
 use Rattle.sets.specs.Sets.{Words}
 use Rattle.model.specs.Lists.{empty_lists}
 use Rattle.model.specs.Call.{Book, book_with}
 use Rattle.model.specs.Run.{run}
 use Rattle.rows.specs.Table.{Table}
-use Rattle.lines.specs.declared.requests.Request.{Request}
-use Rattle.lines.specs.declared.requests.Request.TheVariants as request
 use Rattle.lines.specs.declared.steps.Place.{Place}
-use Rattle.lines.specs.Requests.{name_of, request_of, call_of}
+use Rattle.lines.specs.Requests.{Request, name_of, request_of, call_of}
 use Rattle.lines.specs.Promises.{said, names_behind}
 use Rattle.lines.specs.Steps.{desk_room, most_input, too_long, most_output, Steps}
 
 -- the lists after a line
 abbrev pub lists_after_line : Book → List ℕ → Request → List Words
-lists_after_line b line (request.Call kind m) = (run b (call_of kind m (name_of line))).lists
-lists_after_line b line request.Other = b.lists
+lists_after_line b line (Some (kind, m)) = (run b (call_of kind m (name_of line))).lists
+lists_after_line b line None = b.lists
 
 -- what is printed for the lines, of which the first is the n-th
 abbrev pub printed : ℕ → List Words → ℕ → List (List ℕ) → List ℕ

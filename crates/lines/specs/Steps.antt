@@ -1,18 +1,16 @@
 -- The desk program as steps. What a step prints, and where the program then stands, is told by the table, the input, the place and the size of the
 -- buffer; which row of the table then holds which state is free, and nothing else. Assumes nothing.
-use Rattle.std.specs.Prelude.{ℕ, ◌+◌, ◌*◌, ◌≡◌, Bool, true, false, not, cond, ◌&&◌, List, [], eqb, leb, length, replicate}
+use Rattle.std.specs.Prelude.{Some, None, ℕ, ◌+◌, ◌*◌, ◌≡◌, Bool, true, false, not, cond, ◌&&◌, List, [], eqb, leb, length, replicate}
 use Rattle.letters.specs.Lists.{name_at, name_end}
 use Rattle.model.specs.Call.{overlaid}
 use Rattle.examples.specs.Text.{bytes}
 use Rattle.rows.specs.Table.{Table, width, not_room}
 use Rattle.promises.specs.Promises.{reply_to, Tight}
 use Rattle.printing.specs.Printed.{spare}
-use Rattle.lines.specs.declared.requests.Request.{Request}
-use Rattle.lines.specs.declared.requests.Request.TheVariants as request
 use Rattle.lines.specs.declared.steps.Place.{Place}
 use Rattle.lines.specs.declared.steps.Stage.{Stage}
 use Rattle.lines.specs.declared.steps.Stage.TheVariants.{Over, Long, First, Line}
-use Rattle.lines.specs.Requests.{name_of, request_of, call_of}
+use Rattle.lines.specs.Requests.{Request, name_of, request_of, call_of}
 use Rattle.lines.specs.Promises.{LineLeaves, printed_for}
 
 -- "with a book of room 486": so many numbers has its table
@@ -107,10 +105,10 @@ Steps t after input place before filled next = Does (stage_of t input place (len
 
 -- two outcomes of a step: a call's tables are the same as two outcomes of the call are, all others number for number
 abbrev pub RequestTight : Table → Table → Table → List ℕ → Request → Type 0
-RequestTight t u v line (request.Call kind m) =
+RequestTight t u v line (Some (kind, m)) =
     let call = call_of kind m (name_of line) in
     Tight t u v [] [] [] call (reply_to t call) (reply_to t call)
-RequestTight t u v line request.Other = u ≡ v
+RequestTight t u v line None = u ≡ v
 
 abbrev pub StageTight : Table → Table → Table → List ℕ → Place → Stage → Type 0
 StageTight t u v input place Over = u ≡ v

@@ -5,14 +5,14 @@ ghost use Rattle.promises.specs.Books.{book_of};
 ghost use Rattle.lines.specs.Requests.{request_of};
 ghost use Rattle.lines.specs.Promises.{written_behind};
 
-use super::requests::{Kind, Request, request_of};
+use super::requests::{Kind, request_of};
 use answers::Answer;
 use ranking::write;
 
 // "the names follow in order, one per line": as the call write puts them into what is left of the buffer.
 fn list_names(t: &[u16], m: u32, out: &mut [u8]) -> usize
-    ensures long { result ≡ length (written_behind (book_of t.now) (Request.Call Kind.Count m) (length out.old)) }
-    ensures buffer { out.new ≡ overlaid (written_behind (book_of t.now) (Request.Call Kind.Count m) (length out.old)) out.old }
+    ensures long { result ≡ length (written_behind (book_of t.now) (Some (Kind.Count, m)) (length out.old)) }
+    ensures buffer { out.new ≡ overlaid (written_behind (book_of t.now) (Some (Kind.Count, m)) (length out.old)) out.old }
 {
     match write(t, m, out) {
         Answer::Done(bytes) => bytes as usize,
@@ -22,8 +22,8 @@ fn list_names(t: &[u16], m: u32, out: &mut [u8]) -> usize
 
 // "After `L` with number 0 the names follow".
 fn follow_call(t: &[u16], kind: Kind, m: u32, out: &mut [u8]) -> usize
-    ensures long { result ≡ length (written_behind (book_of t.now) (Request.Call kind m) (length out.old)) }
-    ensures buffer { out.new ≡ overlaid (written_behind (book_of t.now) (Request.Call kind m) (length out.old)) out.old }
+    ensures long { result ≡ length (written_behind (book_of t.now) (Some (kind, m)) (length out.old)) }
+    ensures buffer { out.new ≡ overlaid (written_behind (book_of t.now) (Some (kind, m)) (length out.old)) out.old }
 {
     match kind {
         Kind::Count => list_names(t, m, out),
@@ -38,7 +38,7 @@ pub fn follow(t: &[u16], line: &[u8], out: &mut [u8]) -> usize
     ensures buffer { out.new ≡ overlaid (written_behind (book_of t.now) (request_of line.now) (length out.old)) out.old }
 {
     match request_of(line) {
-        Request::Call { kind, mission } => follow_call(t, kind, mission, out),
-        Request::Other => 0,
+        Some((kind, mission)) => follow_call(t, kind, mission, out),
+        None => 0,
     }
 }

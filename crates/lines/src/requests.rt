@@ -1,7 +1,5 @@
 // What a line asks for.
-ghost use Rattle.std.specs.Prelude.{◌≡◌, true, eqb};
-ghost use Rattle.letters.specs.Each.{some};
-ghost use Rattle.printing.specs.Printed.{space};
+ghost use Rattle.std.specs.Prelude.{◌≡◌, true};
 ghost use Rattle.lines.specs.Requests.{is_digit, is_headed, mission_of, name_of, has_name, request_if, request_of};
 
 use printing::SPACE;
@@ -20,30 +18,10 @@ pub enum Kind {
     Count,
 }
 
-// A call on a mission's list, or none.
-#[derive(Clone, Copy)]
-pub enum Request {
-    Call { kind: Kind, mission: u32 },
-    Other,
-}
-
 fn is_digit(b: u8) -> bool
     ensures { result ≡ is_digit b }
 {
     (b'0' <= b) & (b <= b'9')
-}
-
-fn has_space(s: &[u8]) -> bool
-    ensures { result ≡ some (λ b. eqb b space) s.now }
-{
-    let mut i = 0;
-    while i < s.len() {
-        if s[i] == SPACE {
-            return true;
-        }
-        i += 1;
-    }
-    false
 }
 
 // Behind its first byte: "a space, two decimal digits for the mission".
@@ -81,34 +59,32 @@ fn has_name(line: &[u8]) -> bool
     if line.len() < NAME {
         return false;
     }
-    (line[HEAD] == SPACE) & !has_space(name_of(line))
+    (line[HEAD] == SPACE) & !name_of(line).contains(&SPACE)
 }
 
-fn request_if(fine: bool, kind: Kind, line: &[u8]) -> Request
+fn request_if(fine: bool, kind: Kind, line: &[u8]) -> Option<(Kind, u32)>
     requires { is_headed line.now ≡ true }
     ensures { result ≡ request_if fine kind line.now }
 {
     if fine {
-        Request::Call {
-            kind,
-            mission: mission_of(line),
-        }
+        Some((kind, mission_of(line)))
     } else {
-        Request::Other
+        None
     }
 }
 
-pub fn request_of(line: &[u8]) -> Request
+// The call that the line asks for, and its mission; none if the line is not the desk's.
+pub fn request_of(line: &[u8]) -> Option<(Kind, u32)>
     ensures { result ≡ request_of line.now }
 {
     if !is_headed(line) {
-        return Request::Other;
+        return None;
     }
     match line[0] {
         b'+' => request_if(has_name(line), Kind::Add, line),
         b'-' => request_if(has_name(line), Kind::Remove, line),
         b'?' => request_if(has_name(line), Kind::Ask, line),
         b'L' => request_if(line.len() == HEAD, Kind::Count, line),
-        _ => Request::Other,
+        _ => None,
     }
 }

@@ -7,7 +7,7 @@ ghost use Rattle.lines.specs.Steps.{desk_numbers, most_input, too_long, beginnin
 
 use super::names::follow;
 use super::replies::call;
-use super::requests::{Request, name_of, request_of};
+use super::requests::{name_of, request_of};
 use calls::empty;
 use letters::{name_at, name_end};
 use printing::{copy_front, put_answer, put_other};
@@ -135,11 +135,11 @@ fn answer(t: &mut [u16], line: &[u8], n: u32, out: &mut [u8]) -> usize
     ensures { Answered t.old t.new line.now n out.old out.new result }
 {
     match request_of(line) {
-        Request::Call { kind, mission } => {
+        Some((kind, mission)) => {
             let reply = call(t, kind, mission, name_of(line));
             put_answer(line, reply.number, reply.value, out)
         }
-        Request::Other => put_other(n, out),
+        None => put_other(n, out),
     }
 }
 

@@ -2,12 +2,12 @@
 use mathlib.Core.Path.{refl, sym, ◌∙◌}
 use Rattle.lines.proofs.names.follow.Goals as goal
 
-pub returns-in-Call : goal.returns-in-Call
-returns-in-Call c =
-    let asked = sym c.request_of.ensures ∙ c.in-Call.is in
+pub returns-in-Some : goal.returns-in-Some
+returns-in-Some c =
+    let asked = sym c.request_of.ensures ∙ c.in-Some.is in
     rw asked (record { long = c.follow_call.ensures.long; buffer = c.follow_call.ensures.buffer })
 
-pub returns-in-Other : goal.returns-in-Other
-returns-in-Other c =
-    let asked = sym c.request_of.ensures ∙ c.in-Other.is in
+pub returns-in-None : goal.returns-in-None
+returns-in-None c =
+    let asked = sym c.request_of.ensures ∙ c.in-None.is in
     rw asked (record { long = refl; buffer = refl })
