@@ -29,12 +29,8 @@ pub fn order_rows(t: &[u16], order: &mut [u16])
     requires { Tidy t.now × (order.old ≡ replicate (levels + most_rows) 0) }
     ensures { Ordered t.now order.new }
 {
-    let k = row_count(t);
-    let mut r = 1;
-    while r < k {
-        let l = level(t, r);
-        link(order, LEVELS, l, r);
-        r += 1;
+    for r in 1..row_count(t) {
+        link(order, LEVELS, level(t, r), r);
     }
 }
 

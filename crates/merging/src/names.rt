@@ -15,8 +15,7 @@ pub fn next_part<'a>(first: &'a [u8], second: &'a [u8], at: Places) -> &'a [u8]
     let i = at.first;
     let j = at.second;
     match whose_turn(first, second, at) {
-        Turn::First => name_at(first, i),
-        Turn::Both => name_at(first, i),
+        Turn::First | Turn::Both => name_at(first, i),
         Turn::Second => name_at(second, j),
         Turn::Neither => &first[0..0],
     }
@@ -46,6 +45,7 @@ pub fn name_count<'a>(first: &'a [u8], second: &'a [u8]) -> usize
         second: 0,
     };
     let mut n = 0;
+    // A while: it goes on by the places behind each name, in two lists at once.
     while at.first + at.second < first.len() + second.len() {
         at = places_after(first, second, at);
         n += 1;

@@ -2,7 +2,8 @@
 ghost use Rattle.std.specs.Prelude.{◌≡◌};
 ghost use Rattle.merging.specs.Merging.{turn_of, places_after};
 
-use letters::{Order, name_at, name_end, order_of};
+use letters::{name_at, name_end, order_of};
+use std::cmp::Ordering;
 
 // A place in each of the two lists.
 #[derive(Clone, Copy)]
@@ -36,9 +37,9 @@ pub fn whose_turn(first: &[u8], second: &[u8], at: Places) -> Turn
         return Turn::First;
     }
     match order_of(name_at(first, i), name_at(second, j)) {
-        Order::Before => Turn::First,
-        Order::Same => Turn::Both,
-        Order::After => Turn::Second,
+        Ordering::Less => Turn::First,
+        Ordering::Equal => Turn::Both,
+        Ordering::Greater => Turn::Second,
     }
 }
 

@@ -8,17 +8,9 @@ use borrow.Author.Rules.{rules}
 use lib.ListN.{length}
 use Rattle.letters.specs.Lists.{name_end}
 use Rattle.letters.proofs.Lines.{name_end-le}
-use Rattle.merging.specs.declared.places.Turn.{Turn}
-use Rattle.merging.specs.declared.places.Turn.TheVariants.{First, Second, Both, Neither}
-use Rattle.merging.specs.Merging.{turn_of}
+use Rattle.merging.specs.declared.places.Turn.TheVariants.{First, Second, Both}
 use Rattle.merging.proofs.Turns.{left_by}
 use Rattle.merging.proofs.places.places_after.Goals as goal
-use Rattle.merging.proofs.places.places_after.Goals.{After-whose_turn}
-
--- whose turn it is
-told : (c : After-whose_turn) (turn : Turn) → c.whose_turn.result ≡ turn
-    → let args = c.args in turn_of args.first.now args.second.now args.at ≡ turn
-told c turn e = sym c.whose_turn.ensures ∙ e
 
 -- a name ends inside its list
 inside : (list : List ℕ) (at end : ℕ) → end ≡ name_end list at → at < length list → end ≤ length list
@@ -26,38 +18,38 @@ inside list at end e some = rw e (name_end-le list at (le_of_lt some))
 
 pub overflow_add-result : goal.overflow_add-result
 overflow_add-result c =
-    let some = (left_by _ _ _ First (told (goal.at.overflow_add-result c).After-whose_turn First c.in-First.is)).0 in
+    let some = (left_by _ _ _ First (sym c.whose_turn.ensures ∙ c.in-First.is)).0 in
     let ends = inside _ _ _ c.name_end.ensures some in
     search rules
 
 pub overflow_add-result-in-Both : goal.overflow_add-result-in-Both
 overflow_add-result-in-Both c =
-    let some = (left_by _ _ _ Both (told (goal.at.overflow_add-result-in-Both c).After-whose_turn Both c.in-Both.is)).0 in
+    let some = (left_by _ _ _ Both (sym c.whose_turn.ensures ∙ c.in-Both.is)).0 in
     let ends = inside _ _ _ c.name_end-in-Both.ensures some in
     search rules
 
 pub overflow_add-result-in-Both-2 : goal.overflow_add-result-in-Both-2
 overflow_add-result-in-Both-2 c =
-    let some = (left_by _ _ _ Both (told (goal.at.overflow_add-result-in-Both-2 c).After-whose_turn Both c.in-Both.is)).1 in
+    let some = (left_by _ _ _ Both (sym c.whose_turn.ensures ∙ c.in-Both.is)).1 in
     let ends = inside _ _ _ c.name_end-in-Both-2.ensures some in
     search rules
 
 pub overflow_add-result-in-Second : goal.overflow_add-result-in-Second
 overflow_add-result-in-Second c =
-    let some = (left_by _ _ _ Second (told (goal.at.overflow_add-result-in-Second c).After-whose_turn Second c.in-Second.is)).0 in
+    let some = (left_by _ _ _ Second (sym c.whose_turn.ensures ∙ c.in-Second.is)).0 in
     let ends = inside _ _ _ c.name_end-in-Second.ensures some in
     search rules
 
 pub returns-in-First : goal.returns-in-First
-returns-in-First c = rw (told (goal.at.returns-in-First c).After-whose_turn First c.in-First.is, c.name_end.ensures)
+returns-in-First c = rw (sym c.whose_turn.ensures ∙ c.in-First.is, c.name_end.ensures)
 
 pub returns-in-Both : goal.returns-in-Both
 returns-in-Both c =
-    let turn = told (goal.at.returns-in-Both c).After-whose_turn Both c.in-Both.is in
+    let turn = sym c.whose_turn.ensures ∙ c.in-Both.is in
     rw (turn, c.name_end-in-Both.ensures, c.name_end-in-Both-2.ensures)
 
 pub returns-in-Second : goal.returns-in-Second
-returns-in-Second c = rw (told (goal.at.returns-in-Second c).After-whose_turn Second c.in-Second.is, c.name_end-in-Second.ensures)
+returns-in-Second c = rw (sym c.whose_turn.ensures ∙ c.in-Second.is, c.name_end-in-Second.ensures)
 
 pub returns-in-Neither : goal.returns-in-Neither
-returns-in-Neither c = rw (told (goal.at.returns-in-Neither c).After-whose_turn Neither c.in-Neither.is) refl
+returns-in-Neither c = rw (sym c.whose_turn.ensures ∙ c.in-Neither.is) refl

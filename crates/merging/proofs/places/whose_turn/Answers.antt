@@ -1,14 +1,14 @@
 -- `whose_turn` meets its promise: each list has a name left or none, and where both have one, their order decides. Assumes nothing.
 use mathlib.Core.Path.{◌≡◌, sym, ◌∙◌}
-use Rattle.letters.specs.declared.names.Order.TheVariants.{Before, Same, After}
-use Rattle.letters.specs.declared.names.Order.{Order}
+use Rattle.std.specs.declared.cmp.Ordering.TheVariants.{Less, Equal, Greater}
+use Rattle.std.specs.declared.cmp.Ordering.{Ordering}
 use Rattle.merging.specs.Merging.{turn_of}
 use Rattle.merging.proofs.Turns.{turn-neither, turn-second, turn-first, answer, turn-answer}
 use Rattle.merging.proofs.places.whose_turn.Goals as goal
 use Rattle.merging.proofs.places.whose_turn.Goals.{After-order_of}
 
 -- the order of the two names decides
-decided : (c : After-order_of) (r : Order) → c.order_of.result ≡ r
+decided : (c : After-order_of) (r : Ordering) → c.order_of.result ≡ r
     → let args = c.args in
     answer r ≡ turn_of args.first.now args.second.now args.at
 decided c r e =
@@ -24,11 +24,11 @@ returns-then-first-i c = sym (turn-second _ _ _ c.if-first-i.true c.if-second-j.
 pub returns-then-second-j-2 : goal.returns-then-second-j-2
 returns-then-second-j-2 c = sym (turn-first _ _ _ c.if-first-i.false c.if-second-j-2.true)
 
-pub returns-in-Before : goal.returns-in-Before
-returns-in-Before c = decided (goal.at.returns-in-Before c).After-order_of Before c.in-Before.is
+pub returns-in-Less : goal.returns-in-Less
+returns-in-Less c = decided (goal.at.returns-in-Less c).After-order_of Less c.in-Less.is
 
-pub returns-in-Same : goal.returns-in-Same
-returns-in-Same c = decided (goal.at.returns-in-Same c).After-order_of Same c.in-Same.is
+pub returns-in-Equal : goal.returns-in-Equal
+returns-in-Equal c = decided (goal.at.returns-in-Equal c).After-order_of Equal c.in-Equal.is
 
-pub returns-in-After : goal.returns-in-After
-returns-in-After c = decided (goal.at.returns-in-After c).After-order_of After c.in-After.is
+pub returns-in-Greater : goal.returns-in-Greater
+returns-in-Greater c = decided (goal.at.returns-in-Greater c).After-order_of Greater c.in-Greater.is
