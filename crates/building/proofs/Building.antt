@@ -6,6 +6,7 @@ use native.Mathlib.Decide.{ℕ_discrete}
 use mathlib.Core.Path.{◌≡◌, refl, sym, ap, ◌∙◌}
 use mathlib.Core.Bool.{Bool, true, false, cond, false≢true}
 use mathlib.Core.List.{List, [], ◌∷◌, ◌++◌, map, append-nil}
+use Rattle.std.specs.Prelude.{Result}
 use lib.Dec.{eqb}
 use lib.ListN.{length, get_or, set, replicate, drop, length-append, length-map}
 use borrow.Author.Tests.{eqb-true, eqb-false}
@@ -22,7 +23,7 @@ use Rattle.rows.specs.Table.{Table, row_count}
 use Rattle.rows.specs.Tidy.{Tidy}
 use Rattle.rows.proofs.Facts.{no_row}
 use Rattle.rows.proofs.Words.{words-none}
-use Rattle.growing.specs.declared.makes.Made.{Made}
+use Rattle.growing.specs.declared.makes.Full.{Full}
 use Rattle.growing.specs.Rows.{end_mark, words_over}
 use Rattle.growing.specs.Growing.{Fitting, MadeRow, MadeFull, Makes, TargetsMade}
 use Rattle.growing.proofs.Growing.{within-after, grows_self}
@@ -249,7 +250,7 @@ module _ {t v : Table} {f s : List ℕ} {at : Places} {name : List ℕ} {depth :
     pub passed-fits : Fitting v (end_mark (eqb (length name) depth)) ts
     passed-fits = targets-fit passed.made group-plain group-short (λ x h. rw whole) _ (end_marked _ (eqb (length name) depth) refl)
 
-    pub passed-made : (w : Table) (made : Made) → Makes 1 v w (words_over v (end_mark (eqb (length name) depth)) ts) made
+    pub passed-made : (w : Table) (made : Result ℕ Full) → Makes 1 v w (words_over v (end_mark (eqb (length name) depth)) ts) made
         → Makes (row_count t) t w (group f s at name depth) made
     passed-made w made m = targets-made passed.made group-plain group-short (λ x h. rw whole) w made (rw (← ends_there) at m)
 

@@ -31,17 +31,10 @@ fn same_letter(a: u8, b: u8) -> bool
 fn shared_letters(a: &[u8], b: &[u8]) -> usize
     ensures { result ≡ shared (word_of a.now) (word_of b.now) }
 {
-    let mut i = 0;
-    while i < a.len() {
-        if b.len() <= i {
-            return i;
-        }
-        if !same_letter(a[i], b[i]) {
-            return i;
-        }
-        i += 1;
-    }
-    i
+    a.iter()
+        .zip(b)
+        .take_while(|(x, y)| same_letter(**x, **y))
+        .count()
 }
 
 // How deep the next name is in the group of a name's letters.
@@ -89,10 +82,8 @@ pub fn next_at<'a>(
     requires { name.now ≡ next_bytes first.now second.now at }
     ensures { result.now ≡ next_bytes first.now second.now places }
 {
-    if places.first == at.first {
-        if places.second == at.second {
-            return name;
-        }
+    if places.first == at.first && places.second == at.second {
+        return name;
     }
     next_part(first, second, places)
 }

@@ -10,15 +10,15 @@ ghost use Rattle.building.specs.Groups.{Begins};
 ghost use Rattle.building.specs.Building.{Builds};
 
 use super::depths::{Ahead, first_ahead, next_at};
-use growing::{Made, end_mark, make};
+use growing::{Full, end_mark, make};
 use letters::{LETTERS, letter_of};
 use merging::{Places, next_part};
 
-// The row of a group, and what is ahead of its letters behind its names; or no row is free.
+// The row of a group, and what is ahead of its letters behind its names.
 #[derive(Clone, Copy)]
-pub enum Built {
-    Group(u16, Ahead),
-    Full,
+pub struct Group {
+    pub row: u16,
+    pub ahead: Ahead,
 }
 
 // The names from some places on that begin with so many letters of the next name there: what is left of
@@ -31,7 +31,7 @@ fn build<'a>(
     at: Places,
     name: &'a [u8],
     depth: usize,
-) -> Built
+) -> Result<Group, Full>
     requires { Tidy t.old × Indexed t.old index.old × Begins first.now second.now at name.now depth }
     ensures builds { Builds t.old t.new first.now second.now at name.now depth result }
     ensures indexed { Indexed t.new index.new }
@@ -42,20 +42,21 @@ fn build<'a>(
         let places = ahead.places;
         let next = next_at(first, second, at, name, places);
         let x = letter_of(next[depth]);
-        let Built::Group(n, behind) = build(t, index, first, second, places, next, depth + 1) else {
-            return Built::Full;
-        };
-        targets[x] = n;
-        ahead = behind;
+        let group = build(t, index, first, second, places, next, depth + 1)?;
+        targets[x] = group.row;
+        ahead = group.ahead;
     }
-    let Made::Row(n) = make(t, index, end_mark(name.len() == depth), targets) else {
-        return Built::Full;
-    };
-    Built::Group(n, ahead)
+    let row = make(t, index, end_mark(name.len() == depth), targets)?;
+    Ok(Group { row, ahead })
 }
 
 // The row for the names of two lists, each once. "No bytes is the empty list."
-pub fn build_lists<'a>(t: &mut [u16], index: &mut [u16], first: &'a [u8], second: &'a [u8]) -> Made
+pub fn build_lists<'a>(
+    t: &mut [u16],
+    index: &mut [u16],
+    first: &'a [u8],
+    second: &'a [u8],
+) -> Result<u16, Full>
     requires { Tidy t.old × Indexed t.old index.old × (is_list first.now ≡ true) × (is_list second.now ≡ true) }
     ensures makes { Makes (row_count t.old) t.old t.new (both (names_of first.now) (names_of second.now)) result }
     ensures indexed { Indexed t.new index.new }
@@ -66,10 +67,8 @@ pub fn build_lists<'a>(t: &mut [u16], index: &mut [u16], first: &'a [u8], second
     };
     let name = next_part(first, second, at);
     if name.len() == 0 {
-        return Made::Row(0);
+        return Ok(0);
     }
-    let Built::Group(n, _) = build(t, index, first, second, at, name, 0) else {
-        return Made::Full;
-    };
-    Made::Row(n)
+    let group = build(t, index, first, second, at, name, 0)?;
+    Ok(group.row)
 }

@@ -7,9 +7,11 @@ use native.Mathlib.Decide.{ℕ_discrete}
 use mathlib.Core.Path.{◌≡◌, refl, sym, ◌∙◌}
 use mathlib.Core.Bool.{Bool, true, false, cond, ◌||◌, false≢true}
 use mathlib.Core.List.{List, []}
+use Rattle.std.specs.Prelude.{Some, None, Result, Ok, Err}
 use lib.Dec.{eqb, ltb}
 use lib.ListN.{length, get_or, set, replicate, length-set, length-replicate, get_or-replicate}
 use lib.Seq.{get_or-set_same, get_or-set_other}
+use Rattle.std.proofs.lemmas.Option.{none-some, same_Some}
 use borrow.Author.Tests.{ltb-true, ltb-false, lt-ltb, le-ltb, eqb-true, eqb-false, eq-eqb, ne_eqb}
 use Rattle.letters.specs.Each.{Each}
 use Rattle.letters.specs.Letters.{letters}
@@ -28,12 +30,11 @@ use Rattle.rows.proofs.Zeros.{zero-cell}
 use Rattle.rows.proofs.Words.{words-plain, words-short, words-none, empty-word, words-target}
 use Rattle.rows.proofs.Growth.{mark-kept, height-kept, used-kept, named-kept, words-kept}
 use Rattle.growing.specs.Rows.{end_mark}
-use Rattle.growing.specs.declared.makes.Made.{Made}
-use Rattle.growing.specs.declared.makes.Made.TheVariants.{Row, Full}
+use Rattle.growing.specs.declared.makes.Full.{Full}
 use Rattle.growing.specs.Growing.{MadeRow, TargetsMade}
 use Rattle.growing.proofs.Growing.{Within, within-after, grows_self}
 use Rattle.growing.proofs.Targets.{end_marked, targets-none, targets-more, targets-full, targets-fit, over-words, targets-made}
-use Rattle.pairing.specs.Pairs.{or_none, is_at_once, at_once, pair_mark, Pair, Both, Pairs, Wide, entry, known, kept, Result, Results, Ready, Combines}
+use Rattle.pairing.specs.Pairs.{or_none, is_at_once, at_once, pair_mark, Pair, Both, Pairs, Wide, entry, settled_row, known, kept, Settles, Results, Ready, Combines}
 
 -- the words of a pair
 abbrev wanted : ℕ → Table → ℕ → ℕ → Words
@@ -79,13 +80,13 @@ module _ {op : ℕ} {t : Table} {seen : Pairs} (before : Results op t seen) (p q
         | no e ↦ rw (get_or-set_other seen p a _ [] e)
       ]
 
-  settled-more : Result op t p q r → Results op t (kept seen p q r)
+  settled-more : Settles op t p q r → Results op t (kept seen p q r)
   settled-more new = record { rows = rw long_kept before.rows; wide = wide-kept; settled = settled }
     where
-      old : (a b s : ℕ) → entry (kept seen p q r) a b ≡ suc s → (a ≡ p → b ≡ q → ⊥) → Result op t a b s
+      old : (a b s : ℕ) → entry (kept seen p q r) a b ≡ suc s → (a ≡ p → b ≡ q → ⊥) → Settles op t a b s
       old a b s e other = before.settled a b s (sym (entry_other a b other) ∙ e)
 
-      settled : (a b s : ℕ) → entry (kept seen p q r) a b ≡ suc s → Result op t a b s
+      settled : (a b s : ℕ) → entry (kept seen p q r) a b ≡ suc s → Settles op t a b s
       settled a b s e =
           elim (ℕ_discrete a p) [
             | yes d ↦ elim (ℕ_discrete b q) [
@@ -108,7 +109,7 @@ module _ {t u : Table} (tidy : Tidy t) (grown : Grown t u) where
   wanted-kept : (op : ℕ) {p q : ℕ} → Named t p → Named t q → wanted op u p q ≡ wanted op t p q
   wanted-kept op {p} {q} first second = rw (words-kept t u grown tidy p first, words-kept t u grown tidy q second)
 
-  settles-kept : {op p q r : ℕ} → Result op t p q r → Result op u p q r
+  settles-kept : {op p q r : ℕ} → Settles op t p q r → Settles op u p q r
   settles-kept {op} {p} {q} {r} s =
       record {
         first = named-kept t u grown p s.first;
@@ -126,18 +127,13 @@ module _ {t u : Table} (tidy : Tidy t) (grown : Grown t u) where
       }
 
 -- the row of a settled pair is there
-pub settles-made : {most op : ℕ} {t : Table} {seen : Pairs} {p q r : ℕ} → Tidy t → Results op t seen → Result op t p q r
-    → Combines most t t seen op p q (Row r)
+pub settles-made : {most op : ℕ} {t : Table} {seen : Pairs} {p q r : ℕ} → Tidy t → Results op t seen → Settles op t p q r
+    → Combines most t t seen op p q (Ok r)
 settles-made {t} tidy settled s =
     record {
       makes = record { grows = grows_self t tidy _; named = s.named; has = s.has; few = omega arith };
       settled = settled;
     }
-
--- the same by another name of what was made
-pub combines-as : {most op : ℕ} {t u : Table} {seen : Pairs} {p q : ℕ} {made told : Made} → made ≡ told
-    → Combines most t u seen op p q made → Combines most t u seen op p q told
-combines-as e combines = rw e at combines
 
 -- what is ready is a pair of rows
 pub ready-pair : {t : Table} {seen : Pairs} {op p q : ℕ} {ts : List ℕ} → Ready t seen op p q ts → Pair t p q
@@ -145,11 +141,11 @@ ready-pair ready = record { tidy = ready.tidy; first = λ _. ready.first; second
 
 -- the row of a pair is made, and kept
 pub row_made : {most op : ℕ} {t u : Table} {seen : Pairs} {p q r : ℕ} → Pair t p q → Results op t seen → MadeRow most t u (wanted op t p q) r
-    → Combines most t u (kept seen p q r) op p q (Row r)
+    → Combines most t u (kept seen p q r) op p q (Ok r)
 row_made {op} {t} {u} {p} {q} {r} rows settled made =
     let tidy = rows.tidy in
     let grown = made.grows.grown in
-    let new : Result op u p q r =
+    let new : Settles op u p q r =
     record {
       first = named-kept t u grown p rows.first;
       second = named-kept t u grown q rows.second;
@@ -161,7 +157,7 @@ row_made {op} {t} {u} {p} {q} {r} rows settled made =
 module _ {op : ℕ} {t : Table} {p q : ℕ} (rows : Pair t p q) where
   -- a row and itself, or a row and none
   or-none-settles : (a b : Bool) (r : ℕ) → Named t r → words t p ≡ cond a (words t r) [] → words t q ≡ cond b (words t r) []
-      → Result op t p q (or_none (chosen op a b) r)
+      → Settles op t p q (or_none (chosen op a b) r)
   or-none-settles a b r named d e =
       record {
         first = rows.first;
@@ -174,7 +170,7 @@ module _ {op : ℕ} {t : Table} {p q : ℕ} (rows : Pair t p q) where
       or-none true = refl
       or-none false = words-none t 0 (no_row t 0 refl)
 
-  at-once-settles : is_at_once p q ≡ true → Result op t p q (at_once op p q)
+  at-once-settles : is_at_once p q ≡ true → Settles op t p q (at_once op p q)
   at-once-settles once =
       elim (ℕ_discrete p 0) [
         | yes e ↦ rw (eq-eqb p 0 e) (or-none-settles false true q rows.second (words-none t p (no_row t p e)) refl)
@@ -187,24 +183,28 @@ module _ {op : ℕ} {t : Table} {p q : ℕ} (rows : Pair t p q) where
       ]
 
   module _ {seen : Pairs} (settled : Results op t seen) where
-    -- a pair of which something is known is settled
-    pub known-settles : (r : ℕ) → known seen op p q ≡ suc r → Result op t p q r
+    -- a pair of which the row is known is settled
+    pub known-settles : (r : ℕ) → known seen op p q ≡ Some r → Settles op t p q r
     known-settles r = go (is_at_once p q) refl
       where
-        go : (b : Bool) → is_at_once p q ≡ b → cond b (suc (at_once op p q)) (entry seen p q) ≡ suc r → Result op t p q r
-        go true once e = let same : at_once op p q ≡ r = omega arith in rw same at (at-once-settles once)
-        go false _ e = settled.settled p q r e
+        entered : (n : ℕ) → entry seen p q ≡ n → settled_row n ≡ Some r → Settles op t p q r
+        entered zero _ e = absurd (none-some r e)
+        entered (suc s) there e = let same : s ≡ r = same_Some s r e in rw same at (settled.settled p q s there)
+
+        go : (b : Bool) → is_at_once p q ≡ b → cond b (Some (at_once op p q)) (settled_row (entry seen p q)) ≡ Some r → Settles op t p q r
+        go true once e = let same : at_once op p q ≡ r = same_Some _ r e in rw same at (at-once-settles once)
+        go false _ e = entered (entry seen p q) refl e
 
     -- the rows of any other are in use
-    pub unknown-both : known seen op p q ≡ 0 → Both t p q
+    pub unknown-both : known seen op p q ≡ None → Both t p q
     unknown-both = go (is_at_once p q) refl
       where
         neither : (a b : Bool) → (a || b) ≡ false → (a ≡ false) × (b ≡ false)
         neither true b e = absurd (false≢true (sym e))
         neither false b e = (refl, e)
 
-        go : (b : Bool) → is_at_once p q ≡ b → cond b (suc (at_once op p q)) (entry seen p q) ≡ 0 → Both t p q
-        go true _ e = absurd (omega arith)
+        go : (b : Bool) → is_at_once p q ≡ b → cond b (Some (at_once op p q)) (settled_row (entry seen p q)) ≡ None → Both t p q
+        go true _ e = absurd (none-some _ (sym e))
         go false other _ =
             let (d, e) = neither (eqb p q || eqb p 0) (eqb q 0) other in
             let (_, f) = neither (eqb p q) (eqb p 0) d in
@@ -288,7 +288,7 @@ module _ {op : ℕ} {t : Table} {p q : ℕ} (rows : Both t p q) where
           step true e = lt-ltb y (x + 1) (omega (arith, ltb-true y x e))
           step false e = le-ltb y (x + 1) (omega (arith, ltb-false y x e))
 
-      pub one_more : {most r : ℕ} {v : Table} {seen' : Pairs} → Combines most u v seen' op n k (Row r)
+      pub one_more : {most r : ℕ} {v : Table} {seen' : Pairs} → Combines most u v seen' op n k (Ok r)
           → SoFar op t p q v seen' (set ts x r) (x + 1)
       one_more {most} {r} {v} next =
           record {
@@ -296,8 +296,8 @@ module _ {op : ℕ} {t : Table} {p q : ℕ} (rows : Both t p q) where
             targets = targets-more so_far.targets v most x r _ letter (rw passed (rw next-words at next.makes)) (rw passed next-within) others_same;
           }
 
-      pub no_room_lem : {most : ℕ} {v : Table} {seen' : Pairs} → Combines most u v seen' op n k Full
-          → Combines (row_count t) t v seen' op p q Full
+      pub no_room_lem : {most : ℕ} {v : Table} {seen' : Pairs} {e d : Full} → Combines most u v seen' op n k (Err e)
+          → Combines (row_count t) t v seen' op p q (Err d)
       no_room_lem {v} next =
           record {
             makes = targets-full so_far.targets v _ (after x (wanted op t p q)) (rw next-words at next.makes) next-within;
@@ -333,7 +333,7 @@ module _ {op : ℕ} {t : Table} {p q : ℕ} (rows : Both t p q) where
                 ∙ sym (wanted-kept rows.tidy grown op (λ _. rows.first) (λ _. rows.second));
           }
 
-      pub all_made : {v : Table} {seen' : Pairs} {made : Made} → Combines 1 u v seen' op p q made → Combines (row_count t) t v seen' op p q made
+      pub all_made : {v : Table} {seen' : Pairs} {made : Result ℕ Full} → Combines 1 u v seen' op p q made → Combines (row_count t) t v seen' op p q made
       all_made {v} {made} last =
           record {
             makes = targets-made so_far.targets plain short all v made (rw (mark-chosen, all-ready.over) last.makes);

@@ -1,11 +1,11 @@
 -- A pair of rows, its row, and the table of settled pairs. Assumes nothing.
-use Rattle.std.specs.Prelude.{ℕ, suc, ◌≤◌, ◌<◌, ◌≡◌, Bool, true, false, cond, ◌||◌, List, [], eqb, length, get_or, set}
+use Rattle.std.specs.Prelude.{ℕ, zero, suc, ◌≤◌, ◌<◌, ◌≡◌, Bool, true, false, cond, ◌||◌, Option, Some, None, Result, List, [], eqb, length, get_or, set}
 use Rattle.model.specs.Rules.{combined, chosen}
 use Rattle.rows.specs.Table.{Table, row_count, most_rows, mark}
 use Rattle.rows.specs.Words.{words}
 use Rattle.rows.specs.Tidy.{Used, Named, Tidy}
 use Rattle.growing.specs.Rows.{end_mark, words_over}
-use Rattle.growing.specs.declared.makes.Made.{Made}
+use Rattle.growing.specs.declared.makes.Full.{Full}
 use Rattle.growing.specs.Growing.{Fitting, Makes}
 
 -- two rows of a tidy table; "a missing row stands for no words"
@@ -47,16 +47,21 @@ Wide seen = (p : ℕ) → p < length seen → length (get_or seen p []) ≡ most
 abbrev pub entry : Pairs → ℕ → ℕ → ℕ
 entry seen p q = get_or (get_or seen p []) q 0
 
+-- the row that the number of a pair says, if the pair is settled
+abbrev pub settled_row : ℕ → Option ℕ
+settled_row zero = None
+settled_row (suc r) = Some r
+
 -- the same, with the pairs that are settled at once
-abbrev pub known : Pairs → ℕ → ℕ → ℕ → ℕ
-known seen op p q = cond (is_at_once p q) (suc (at_once op p q)) (entry seen p q)
+abbrev pub known : Pairs → ℕ → ℕ → ℕ → Option ℕ
+known seen op p q = cond (is_at_once p q) (Some (at_once op p q)) (settled_row (entry seen p q))
 
 -- the table with this row for the pair
 abbrev pub kept : Pairs → ℕ → ℕ → ℕ → Pairs
 kept seen p q r = set seen p (set (get_or seen p []) q (suc r))
 
 -- row r has the words of the pair
-pub record Result (op : ℕ) (t : Table) (p q r : ℕ) : Type 0 where
+pub record Settles (op : ℕ) (t : Table) (p q r : ℕ) : Type 0 where
   pub first : Named t p
   pub second : Named t q
   pub named : Named t r
@@ -66,7 +71,7 @@ pub record Result (op : ℕ) (t : Table) (p q r : ℕ) : Type 0 where
 pub record Results (op : ℕ) (t : Table) (seen : Pairs) : Type 0 where
   pub rows : row_count t ≤ length seen
   pub wide : Wide seen
-  pub settled : (p q r : ℕ) → entry seen p q ≡ suc r → Result op t p q r
+  pub settled : (p q r : ℕ) → entry seen p q ≡ suc r → Settles op t p q r
 
 -- everything is there for the row of a pair of rows in use
 pub record Ready (t : Table) (seen : Pairs) (op p q : ℕ) (targets : List ℕ) : Type 0 where
@@ -78,6 +83,6 @@ pub record Ready (t : Table) (seen : Pairs) (op p q : ℕ) (targets : List ℕ) 
   pub over : words_over t (pair_mark t op p q) targets ≡ combined op (words t p) (words t q)
 
 -- what is promised of the row of a pair, with at most so many rows more in use
-pub record Combines (most : ℕ) (t u : Table) (seen : Pairs) (op p q : ℕ) (made : Made) : Type 0 where
+pub record Combines (most : ℕ) (t u : Table) (seen : Pairs) (op p q : ℕ) (made : Result ℕ Full) : Type 0 where
   pub makes : Makes most t u (combined op (words t p) (words t q)) made
   pub settled : Results op u seen

@@ -4,6 +4,7 @@ ghost use Rattle.model.specs.Rules.{chosen};
 ghost use Rattle.pairing.specs.Pairs.{or_none, at_once};
 
 // Is a word in the result, by whether it is among the words of each row?
+// op is a number: whoever combines may give any, and a narrower type would ask more of the caller.
 pub fn chosen(op: u32, a: bool, b: bool) -> bool
     ensures { result ≡ chosen op a b }
 {

