@@ -19,7 +19,7 @@ use Rattle.answers.specs.declared.cases.Refusal.{Refusal}
 use Rattle.answers.specs.Replies.{refusal_number}
 use Rattle.answers.proofs.Again.{refusal-positive}
 use Rattle.promises.specs.Books.{book_of}
-use Rattle.admitting.specs.Admissions.{Admission, if_fine, verdict, book_tests, walk_tests, first_tests}
+use Rattle.admitting.specs.Admissions.{Admission, if_fine, verdict, book_tests, first_tests}
 
 -- ---- arguments
 
@@ -50,11 +50,6 @@ pub record Admits (t : Table) (m : ℕ) (found : Admission) : Type 0 where
   pub arguments : found ≡ Ok tt
   pub sound : sound t ≡ true
 
--- of those of a walk
-pub record Walks (t : Table) (m : ℕ) : Type 0 where
-  pub length : length_ok t ≡ true
-  pub mission : m < missions
-
 module _ (t : Table) where
   abbrev b : Book
   b = book_of t
@@ -63,11 +58,6 @@ module _ (t : Table) where
   book-admitted none =
       let (_, (sound, _)) = given-none (book_tests b) ((λ _. omega arith), ((λ _. omega arith), tt)) (sym none) in
       not-false _ sound
-
-  pub walk-admitted : (m : ℕ) → 0 ≡ given (walk_tests b m) → Walks t m
-  walk-admitted m none =
-      let (length, (mission, _)) = given-none (walk_tests b m) ((λ _. omega arith), ((λ _. omega arith), tt)) (sym none) in
-      record { length = not-false _ length; mission = omega (arith, ltb-false last_mission m mission) }
 
   pub admitted : (m : ℕ) (found : Admission) → 0 ≡ given (first_tests b m found) → Admits t m found
   admitted m found none =
@@ -94,7 +84,3 @@ pub refused-first : (b : Book) (r : Rule) (tests more : List Test) → given r.r
 refused-first b r tests more begins why number =
     let first : given (tests ++ more) ≡ given tests = given-first tests more (omega (arith, refusal-positive why)) in
     rw (begins ∙ first ∙ sym number) (refused-outcome b (refusal_number why) _ (refusal-positive why))
-
--- Where the tests are all that the rule has, and pass, the call is done.
-pub done_first : (b : Book) (r : Rule) (tests : List Test) → given r.refusals ≡ given tests → 0 ≡ given tests → ruled b r ≡ r.done
-done_first b r tests all none = rw (all ∙ sym none)

@@ -10,14 +10,14 @@ ghost use Rattle.promises.specs.Walks.{ask_walk};
 ghost use Rattle.promises.specs.Promises.{Promised};
 ghost use Rattle.calls.specs.Words.{word_reply};
 
-use admitting::{Admission, admit_walk};
+use admitting::admit_walk;
 use answers::{Asked, Refusal};
 use letters::long_as_name;
-use walking::{Walked, ends, walk_word};
+use walking::{ends, walk_word};
 
 // "ask says 1 exactly when the walk ends on a row with mark 2."
 fn asked(t: &[u16], row: usize, followed: u32) -> Asked
-    ensures { ask_reply result ≡ done_both (flag (ends t.now row)) followed }
+    ensures { ask_reply (Ok result) ≡ done_both (flag (ends t.now row)) followed }
 {
     if ends(t, row) {
         Asked::OnList(followed)
@@ -27,21 +27,17 @@ fn asked(t: &[u16], row: usize, followed: u32) -> Asked
 }
 
 // 4, and what the walk finds.
-fn ask_walk(t: &[u16], m: usize, name: &[u8]) -> Asked
+fn ask_walk(t: &[u16], m: usize, name: &[u8]) -> Result<Asked, Refusal>
     requires { (length_ok t.now ≡ true) × (m < missions) }
     ensures { ask_reply result ≡ word_reply (is_name name.now) (ask_walk t.now m name.now) }
 {
-    match walk_word(t, m, name, long_as_name(name)) {
-        Walked::Ended { row, followed } => asked(t, row, followed as u32),
-        Walked::NoWord => Asked::Refused(Refusal::Name),
-    }
+    let end = walk_word(t, m, name, long_as_name(name)).ok_or(Refusal::Name)?;
+    Ok(asked(t, end.row, end.followed as u32))
 }
 
-pub fn ask(t: &[u16], m: u32, name: &[u8]) -> Asked
+pub fn ask(t: &[u16], m: u32, name: &[u8]) -> Result<Asked, Refusal>
     ensures { Promised t.now t.now [] [] (ask m name.now) (ask_reply result) }
 {
-    match admit_walk(t, m) {
-        Admission::Admitted => ask_walk(t, m as usize, name),
-        Admission::Refused(r) => Asked::Refused(r),
-    }
+    admit_walk(t, m)?;
+    ask_walk(t, m as usize, name)
 }

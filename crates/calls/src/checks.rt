@@ -4,14 +4,13 @@ ghost use Rattle.model.specs.Call.Call.{check};
 ghost use Rattle.answers.specs.Replies.{answer_reply};
 ghost use Rattle.promises.specs.Promises.{Promised};
 
-use admitting::{Admission, admit_book};
+use admitting::admit_book;
 use answers::Answer;
 
+#[tactic(auto, unfolding(model::specs::Run::run))]
 pub fn check(t: &[u16]) -> Answer
     ensures { Promised t.now t.now [] [] check (answer_reply result) }
 {
-    match admit_book(t) {
-        Admission::Admitted => Answer::Done(0),
-        Admission::Refused(r) => Answer::Refused(r),
-    }
+    admit_book(t)?;
+    Ok(0)
 }

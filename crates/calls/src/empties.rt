@@ -7,12 +7,13 @@ ghost use Rattle.promises.specs.Promises.{Promised};
 use answers::{Answer, Refusal};
 use rows::{fill_with_zeros, length_ok};
 
+#[tactic(auto, unfolding(model::specs::Run::run))]
 pub fn empty(t: &mut [u16]) -> Answer
     ensures { Promised t.old t.new [] [] empty (answer_reply result) }
 {
     if !length_ok(t) {
-        return Answer::Refused(Refusal::Length);
+        return Err(Refusal::Length);
     }
     fill_with_zeros(t);
-    Answer::Done(0)
+    Ok(0)
 }

@@ -12,38 +12,34 @@ ghost use Rattle.promises.specs.Walks.{next_walk};
 ghost use Rattle.promises.specs.Promises.{Promised};
 ghost use Rattle.calls.specs.Words.{word_reply};
 
-use admitting::{Admission, admit_walk};
+use admitting::admit_walk;
 use answers::{Following, Refusal};
 use letters::{letter_count, long_as_prefix};
-use walking::{Walked, letter_set, walk_word};
+use walking::{letter_set, walk_word};
 
 // "next reports each letter whose target is a row."
 fn following(t: &[u16], row: usize) -> Following
-    ensures { next_reply result ≡ done_both (sum_of letters (λ x. has_arc t.now row x)) (count_of letters (λ x. has_arc t.now row x)) }
+    ensures { next_reply (Ok result) ≡ done_both (sum_of letters (λ x. has_arc t.now row x)) (count_of letters (λ x. has_arc t.now row x)) }
 {
     let set = letter_set(t, row);
-    Following::Letters {
+    Following {
         set,
         count: letter_count(set),
     }
 }
 
 // 4, and what the walk finds.
-fn next_walk(t: &[u16], m: usize, prefix: &[u8]) -> Following
+fn next_walk(t: &[u16], m: usize, prefix: &[u8]) -> Result<Following, Refusal>
     requires { (length_ok t.now ≡ true) × (m < missions) }
     ensures { next_reply result ≡ word_reply (is_prefix prefix.now) (next_walk t.now m prefix.now) }
 {
-    match walk_word(t, m, prefix, long_as_prefix(prefix)) {
-        Walked::Ended { row, followed: _ } => following(t, row),
-        Walked::NoWord => Following::Refused(Refusal::Name),
-    }
+    let end = walk_word(t, m, prefix, long_as_prefix(prefix)).ok_or(Refusal::Name)?;
+    Ok(following(t, end.row))
 }
 
-pub fn next(t: &[u16], m: u32, prefix: &[u8]) -> Following
+pub fn next(t: &[u16], m: u32, prefix: &[u8]) -> Result<Following, Refusal>
     ensures { Promised t.now t.now [] [] (next m prefix.now) (next_reply result) }
 {
-    match admit_walk(t, m) {
-        Admission::Admitted => next_walk(t, m as usize, prefix),
-        Admission::Refused(r) => Following::Refused(r),
-    }
+    admit_walk(t, m)?;
+    next_walk(t, m as usize, prefix)
 }

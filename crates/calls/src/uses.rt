@@ -4,15 +4,14 @@ ghost use Rattle.model.specs.Call.Call.{used};
 ghost use Rattle.answers.specs.Replies.{answer_reply};
 ghost use Rattle.promises.specs.Promises.{Promised};
 
-use admitting::{Admission, admit_book};
+use admitting::admit_book;
 use answers::Answer;
 use rows::used_rows;
 
+#[tactic(auto, unfolding(model::specs::Run::run))]
 pub fn used(t: &[u16]) -> Answer
     ensures { Promised t.now t.now [] [] used (answer_reply result) }
 {
-    match admit_book(t) {
-        Admission::Admitted => Answer::Done(used_rows(t) as u32),
-        Admission::Refused(r) => Answer::Refused(r),
-    }
+    admit_book(t)?;
+    Ok(used_rows(t) as u32)
 }

@@ -8,6 +8,7 @@ use mathlib.Core.List.{List, []}
 use lib.Dec.{ltb}
 use lib.ListN.{length}
 use borrow.Author.Tests.{lt-ltb, le-ltb}
+use Rattle.std.specs.Prelude.{Ok, Err}
 use Rattle.letters.specs.Names.{longest}
 use Rattle.sets.specs.Sets.{Words}
 use Rattle.sets.proofs.Membership.{get_or-in, each_in}
@@ -20,7 +21,6 @@ use Rattle.rows.specs.Words.{words, names, lists}
 use Rattle.rows.proofs.Words.{words-short}
 use Rattle.rows.proofs.Books.{list-names}
 use Rattle.answers.specs.declared.cases.Refusal.{Refusal}
-use Rattle.answers.specs.declared.cases.Answer.TheVariants as answer
 use Rattle.answers.specs.Replies.{refusal_number, answer_reply}
 use Rattle.promises.specs.Books.{book_of}
 use Rattle.promises.specs.Promises.{outcome_of, Leaves, Promised}
@@ -46,9 +46,9 @@ name-short t r n h = each_in _ (words-short t r) (get_or-in [] (words t r) n h)
 -- a call refused leaves the buffer, and a call done writes its bytes
 module _ (t : Table) (call : Call) (before : List ℕ) (leaves : Leaves t t call) where
   pub put_refused : (r : Refusal) → outcome_of t call ≡ refused (refusal_number r) (book_of t)
-      → Promised t t before before call (answer_reply (answer.Refused r))
+      → Promised t t before before call (answer_reply (Err r))
   put_refused r e = record { answers = rw e; buffer = rw e; table = leaves }
 
   pub put-done : (after : List ℕ) (k value : ℕ) (bytes : List ℕ) → outcome_of t call ≡ puts (book_of t) bytes value → k ≡ value
-      → after ≡ overlaid bytes before → Promised t t before after call (answer_reply (answer.Done k))
+      → after ≡ overlaid bytes before → Promised t t before after call (answer_reply (Ok k))
   put-done after k value bytes e long written = record { answers = rw (e, long); buffer = rw e written; table = leaves }

@@ -6,7 +6,7 @@ ghost use Rattle.rows.specs.Rules.{sound};
 ghost use Rattle.answers.specs.Replies.{answer_reply};
 ghost use Rattle.promises.specs.Promises.{reply_to, Promised};
 
-use admitting::{Admission, admit};
+use admitting::admit;
 use answers::{Answer, Refusal};
 use counting::{MOST_NAMES, count_names};
 use rows::MOST_ROWS;
@@ -19,16 +19,15 @@ fn count_list(t: &[u16], m: usize) -> Answer
     let mut counts = [0u16; MOST_ROWS];
     let names = count_names(t, m, &mut counts);
     if MOST_NAMES < names {
-        return Answer::Refused(Refusal::TooMany);
+        return Err(Refusal::TooMany);
     }
-    Answer::Done(names as u32)
+    Ok(names as u32)
 }
 
+#[tactic(auto, unfolding(model::specs::Run::run))]
 pub fn count(t: &[u16], m: u32) -> Answer
     ensures { Promised t.now t.now [] [] (count m) (answer_reply result) }
 {
-    match admit(t, m, Admission::Admitted) {
-        Admission::Admitted => count_list(t, m as usize),
-        Admission::Refused(r) => Answer::Refused(r),
-    }
+    admit(t, m, Ok(()))?;
+    count_list(t, m as usize)
 }

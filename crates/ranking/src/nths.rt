@@ -7,7 +7,7 @@ ghost use Rattle.model.specs.Call.Call.{nth};
 ghost use Rattle.answers.specs.Replies.{answer_reply};
 ghost use Rattle.promises.specs.Promises.{Promised};
 
-use admitting::{Admission, admit, if_fine};
+use admitting::{admit, if_fine};
 use answers::{Answer, Refusal};
 use counting::{MOST_NAMES, count_names};
 use letters::LONGEST;
@@ -22,20 +22,19 @@ fn nth_in_list(t: &[u16], m: usize, n: u32, out: &mut [u8]) -> Answer
     let mut counts = [0u16; MOST_ROWS];
     let names = count_names(t, m, &mut counts);
     if MOST_NAMES < names {
-        return Answer::Refused(Refusal::TooMany);
+        return Err(Refusal::TooMany);
     }
     if names as u32 <= n {
-        return Answer::Refused(Refusal::NotUnder);
+        return Err(Refusal::NotUnder);
     }
     let r = start(t, m) as usize;
-    Answer::Done(write_word(t, r, n, &counts, out) as u32)
+    Ok(write_word(t, r, n, &counts, out) as u32)
 }
 
+#[tactic(auto, unfolding(model::specs::Run::run))]
 pub fn nth(t: &[u16], m: u32, n: u32, out: &mut [u8]) -> Answer
     ensures { Promised t.now t.now out.old out.new (nth m n (length out.old)) (answer_reply result) }
 {
-    match admit(t, m, if_fine(LONGEST <= out.len(), Refusal::Buffer)) {
-        Admission::Admitted => nth_in_list(t, m as usize, n, out),
-        Admission::Refused(r) => Answer::Refused(r),
-    }
+    admit(t, m, if_fine(LONGEST <= out.len(), Refusal::Buffer))?;
+    nth_in_list(t, m as usize, n, out)
 }

@@ -7,7 +7,7 @@ ghost use Rattle.rows.specs.Rules.{sound};
 ghost use Rattle.answers.specs.Replies.{answer_reply};
 ghost use Rattle.promises.specs.Promises.{reply_to, Promised};
 
-use admitting::{Admission, admit, if_fine};
+use admitting::{admit, if_fine};
 use answers::{Answer, Refusal};
 use counting::{MOST_NAMES, count_names, rank_from};
 use letters::is_name;
@@ -20,17 +20,15 @@ fn rank_in_list(t: &[u16], m: usize, name: &[u8]) -> Answer
 {
     let mut counts = [0u16; MOST_ROWS];
     if MOST_NAMES < count_names(t, m, &mut counts) {
-        return Answer::Refused(Refusal::TooMany);
+        return Err(Refusal::TooMany);
     }
     let r = start(t, m) as usize;
-    Answer::Done(rank_from(t, r, name, &counts))
+    Ok(rank_from(t, r, name, &counts))
 }
 
 pub fn rank(t: &[u16], m: u32, name: &[u8]) -> Answer
     ensures { Promised t.now t.now [] [] (rank m name.now) (answer_reply result) }
 {
-    match admit(t, m, if_fine(is_name(name), Refusal::Name)) {
-        Admission::Admitted => rank_in_list(t, m as usize, name),
-        Admission::Refused(r) => Answer::Refused(r),
-    }
+    admit(t, m, if_fine(is_name(name), Refusal::Name))?;
+    rank_in_list(t, m as usize, name)
 }

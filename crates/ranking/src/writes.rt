@@ -6,7 +6,7 @@ ghost use Rattle.rows.specs.Rules.{sound};
 ghost use Rattle.answers.specs.Replies.{answer_reply};
 ghost use Rattle.promises.specs.Promises.{Promised};
 
-use admitting::{Admission, admit};
+use admitting::admit;
 use answers::{Answer, Refusal};
 use letters::LONGEST_LIST;
 use listing::{list_size, write_list};
@@ -18,19 +18,18 @@ fn write_if_fits(t: &[u16], m: usize, out: &mut [u8]) -> Answer
 {
     let size = list_size(t, m) as usize;
     if LONGEST_LIST < size {
-        return Answer::Refused(Refusal::List);
+        return Err(Refusal::List);
     }
     if out.len() < size {
-        return Answer::Refused(Refusal::Buffer);
+        return Err(Refusal::Buffer);
     }
-    Answer::Done(write_list(t, m, out) as u32)
+    Ok(write_list(t, m, out) as u32)
 }
 
+#[tactic(auto, unfolding(model::specs::Run::run))]
 pub fn write(t: &[u16], m: u32, out: &mut [u8]) -> Answer
     ensures { Promised t.now t.now out.old out.new (write m (length out.old)) (answer_reply result) }
 {
-    match admit(t, m, Admission::Admitted) {
-        Admission::Admitted => write_if_fits(t, m as usize, out),
-        Admission::Refused(r) => Answer::Refused(r),
-    }
+    admit(t, m, Ok(()))?;
+    write_if_fits(t, m as usize, out)
 }

@@ -1,2 +1,2 @@
--- The steps of a walk over bytes, and what its end tells of their word. Assumes nothing.
+-- What the end of a walk over bytes tells of their word. Assumes nothing.
 pub mod Ways

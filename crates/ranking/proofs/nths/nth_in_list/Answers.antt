@@ -14,7 +14,6 @@ use Rattle.model.proofs.Refusals.{mission-under}
 use Rattle.rows.specs.Words.{words}
 use Rattle.rows.proofs.Rules.{sound-facts, sound-length}
 use Rattle.answers.specs.declared.cases.Refusal.TheVariants.{TooMany, NotUnder}
-use Rattle.listing.proofs.Steps.{start-listable}
 use Rattle.ranking.proofs.Outcomes.{list-words, list_over, list-under, list-exact, name-short, put_refused, put-done}
 use Rattle.ranking.proofs.nths.nth_in_list.Goals as goal
 use Rattle.ranking.proofs.nths.nth_in_list.Goals.{After-start-r}
@@ -55,12 +54,6 @@ under c =
     let (s, h, long) = c.requires in
     let number = c.count_names-names.ensures.number in
     rw (← list-words c.args.t.now c.args.m _ h c.start-r.ensures) (omega (arith, list-exact (λ l. length l) most_names c.args.t.now c.args.m _ h number (omega arith)))
-
-pub write_word-requires : goal.write_word-requires
-write_word-requires c =
-    let (s, h, long) = c.requires in
-    let counts = c.count_names-names.ensures.counted in let number = c.count_names-names.ensures.number in
-    (start-listable c.args.m counts c.start-r.ensures (omega arith), under (goal.at.write_word-requires c).After-start-r, long)
 
 pub overflow_cast-result : goal.overflow_cast-result
 overflow_cast-result c =

@@ -1,37 +1,35 @@
 -- `rank` meets its promise: its first tests refuse it, or leave a sound book, a mission and a name. Assumes nothing.
-use mathlib.Core.Path.{◌≡◌, refl, sym, ◌∙◌}
-use lib.ListN.{drop}
+use Prim.Native.Nat.{ℕ}
+use native.Mathlib.Omega.{arith}
+use mathlib.Core.Path.{◌≡◌, refl, ◌∙◌}
+use mathlib.Core.List.{List, []}
+use Rattle.std.proofs.lemmas.Grind.{common_steps}
+use Rattle.std.proofs.lemmas.Result.{err_from_is_err_and}
 use Rattle.letters.specs.Names.{is_name}
 use Rattle.model.specs.Call.Call.{rank}
-use Rattle.model.specs.Run.{rule, run}
+use Rattle.model.specs.Refusals.{given}
+use Rattle.model.specs.Run.{run}
+use Rattle.rows.specs.Table.{Table}
+use Rattle.answers.specs.declared.cases.Refusal.{Refusal}
 use Rattle.answers.specs.declared.cases.Refusal.TheVariants.{Name}
+use Rattle.answers.specs.Replies.{refusal_number, refused_reply}
 use Rattle.promises.specs.Books.{book_of}
-use Rattle.promises.proofs.Meeting.{promises, promises-refused}
+use Rattle.promises.specs.Promises.{Promised}
+use Rattle.promises.proofs.Meeting.{promises}
 use Rattle.admitting.specs.Admissions.{if_fine, first_tests}
-use Rattle.admitting.proofs.Admitting.{fine-true, first-begins, admitted, refused-first}
 use Rattle.ranking.proofs.ranks.rank.Goals as goal
-use Rattle.ranking.proofs.ranks.rank.Goals.{After-if_fine}
 
--- what was found of the name
-found : (c : After-if_fine) → c.if_fine.result ≡ if_fine (is_name c.args.name.now) Name
-found c = c.if_fine.ensures ∙ rw c.is_name.ensures
-
-pub rank_in_list-requires : goal.rank_in_list-requires
-rank_in_list-requires c =
-    let fine = admitted _ c.in-Admitted.is _ _ c.admit.ensures in
-    (fine.sound, fine.mission, fine-true _ Name (sym (found (goal.at.rank_in_list-requires c).After-if_fine) ∙ fine.arguments))
-
-pub returns-in-Admitted : goal.returns-in-Admitted
-returns-in-Admitted c = promises _ _ (rank _ _) _ refl refl c.rank_in_list.ensures
-
-pub returns-in-Refused : goal.returns-in-Refused
+-- the first tests refuse it: apart from the code, since the search stops at its limits where it sees both
+rank_refused : (t : Table) (m : ℕ) (name : List ℕ) (why : Refusal)
+    → refusal_number why ≡ given (first_tests (book_of t) m (if_fine (is_name name) Name)) → Promised t t [] [] (rank m name) (refused_reply why)
 unfolding run
-returns-in-Refused c =
-    let args = c.args in
-    let b = book_of args.t.now in
-    let call = rank args.m args.name.now in
-    let fine = is_name args.name.now in
-    let more = drop 4 (rule b call).refusals in
-    promises-refused args.t.now call c.in-Refused.r refl refl
-    (refused-first b (rule b call) (first_tests b args.m (if_fine fine Name)) more (first-begins b args.m fine Name more) c.in-Refused.is
-    (rw (found (goal.at.returns-in-Refused c).After-if_fine) at c.admit.ensures))
+rank_refused t m name why number = grind (arith, common_steps)
+
+pub returns-in_err-admit : goal.returns-in_err-admit
+returns-in_err-admit c =
+    let p = err_from_is_err_and c.from_residual.result c.from_residual.ensures.1 in
+    let found = c.if_fine.ensures ∙ rw c.is_name.ensures in
+    rw (p.1, p.2) (rank_refused _ _ _ _ (rw found at c.in_err-admit.ensures))
+
+pub returns : goal.returns
+returns c = promises _ _ (rank _ _) _ refl refl c.rank_in_list.ensures

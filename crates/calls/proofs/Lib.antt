@@ -1,2 +1,0 @@
--- What ask and next share. Assumes nothing.
-mod Walking
