@@ -20,8 +20,12 @@ pub overflow_add-sum : goal.overflow_add-sum
 overflow_add-sum bound c =
     let (arcs, so_far) = c.loop-s.invariant in
     let args = c.args in
-    let one = goes arcs c.in-Some.ensures.steps in
-    omega (arith, sum-small (word-sums _ so_far.counts.tidy) so_far (omega (arith, one.next.from, one.inside)), flag-le (ends args.t.now args.n), c.count_from.ensures.number)
+    omega (
+      arith,
+      sum-small (word-sums _ so_far.counts.tidy) so_far c.loop-s.s-iterator.to,
+      flag-le (ends args.t.now args.n),
+      c.count_from.ensures.number,
+    )
 
 pub loop-s-preserved : goal.loop-s-preserved
 loop-s-preserved bound c =
