@@ -1,17 +1,16 @@
--- The array is filled row by row, each after its targets, and what is counted stays counted. So when a row's letters are passed its targets are
+-- The array is filled row by row, each after its targets, and what is counted stays counted. So when a row's arcs are passed its targets are
 -- counted, and its number is its own part and the sum of theirs, cut. This serves any number that is so made from those of the targets and is
 -- not 0 for a row in use; the number of words is one, because a row in use has a word. Assumes nothing.
 use Prim.Native.Nat.{ℕ, suc, ◌+◌, ◌*◌, ◌≤◌, ◌<◌, min}
 use native.Mathlib.Omega.{arith}
 use native.Mathlib.Decide.{ℕ_discrete}
-use mathlib.Core.Path.{◌≡◌, refl, ◌∙◌}
+use mathlib.Core.Path.{◌≡◌, refl, sym, ◌∙◌}
 use mathlib.Core.Logic.{inl, inr}
 use mathlib.Core.List.{List, [], ◌∷◌}
 use lib.ListN.{length, set, replicate, length-set, length-replicate}
 use lib.Seq.{get_or-set_same, get_or-set_other}
 use Rattle.letters.specs.Letters.{letters}
 use Rattle.letters.specs.LetterSet.{flag}
-use Rattle.sets.specs.Below.{total}
 use Rattle.sets.specs.Sets.{Words, Filled}
 use Rattle.sets.specs.Cut.{most_names}
 use Rattle.sets.proofs.Below.{total-most, total-more}
@@ -20,12 +19,14 @@ use Rattle.rows.specs.Table.{Table, row_count, target, ends}
 use Rattle.rows.specs.Words.{words}
 use Rattle.rows.specs.Tidy.{Used, Arc, Tidy}
 use Rattle.rows.specs.Skips.{NextArc}
+use Rattle.rows.specs.Arcs.{Goes}
+use Rattle.rows.specs.declared.arcs.Arcs.{Arcs}
 use Rattle.rows.proofs.Words.{words-none, has_word}
 use Rattle.rows.proofs.Zeros.{zero-cell}
 use Rattle.rows.proofs.Skipping.{lower-or-not}
 use Rattle.counting.specs.Ahead.{sum_by}
 use Rattle.counting.specs.Counts.{count_at, Numbered, word_count, Counted, Kept, NumberedMore}
-use Rattle.counting.proofs.Ahead.{length-words, ahead-skip, ahead_more}
+use Rattle.counting.proofs.Ahead.{length-words, ahead_none, ahead-skip, ahead_more}
 
 -- the number of a row is its own part and the sum of its targets' numbers, cut: nothing from 0, and something from a row in use
 pub record Sums (t : Table) (most : ℕ) (own number : ℕ → ℕ) : Type 0 where
@@ -72,7 +73,7 @@ pub record SoFar (t : Table) (own number : ℕ → ℕ) (r : ℕ) (before after 
   pub counts : Numbered t number after
   pub kept : Kept before after
   pub targets : (y : ℕ) → y < x → Counted t after (target t r y)
-  pub sums : sum ≡ sum_by (own r) number t r (min x letters)
+  pub sums : sum ≡ sum_by (own r) number t r x
 
 -- what is counted stays so where a row is given a number
 set-kept : (counts : List ℕ) (r k : ℕ) → 0 < k → r < length counts → Kept counts (set counts r k)
@@ -83,60 +84,57 @@ set-kept counts r k more inside n some =
     ]
 
 module _ {t : Table} {most : ℕ} {own number : ℕ → ℕ} (law : Sums t most own number) {r : ℕ} where
-  -- no letter before the first target
-  pub none_yet : {counts : List ℕ} {sum e : ℕ} → Numbered t number counts → sum ≡ own r → NextArc t r 0 e
-      → SoFar t own number r counts counts sum e
-  unfolding total
-  none_yet c start skip =
+  -- before the first letter
+  pub none_yet : {counts : List ℕ} {sum x : ℕ} → Numbered t number counts → sum ≡ own r → x ≡ 0
+      → SoFar t own number r counts counts sum x
+  none_yet c start first =
       record {
         counts = c;
         kept = λ s some. some;
-        targets = λ y below there. absurd (omega (arith, skip.none y (omega arith) below));
-        sums = omega (arith, ahead-skip (own r) number law.none skip letters (omega arith));
+        targets = λ y below. absurd (omega arith);
+        sums = start ∙ sym (ahead_none (own r) number t r first);
       }
 
-  -- one target more, and the letters without a target behind it
-  pub one_more : {before between after : List ℕ} {sum k x e : ℕ} → SoFar t own number r before between sum x → x < letters
-      → NumberedMore t number (target t r x) between after → k ≡ number (target t r x) → NextArc t r (suc x) e
-      → SoFar t own number r before after (sum + k) e
-  one_more {after} {x} {e} s letter m same skip =
+  -- one target more, and the letters without a target before it
+  pub one_more : {before between after : List ℕ} {sum k x n : ℕ} {s e : Arcs} → SoFar t own number r before between sum s.from
+      → Goes t r s e x n → NumberedMore t number n between after → k ≡ number n → SoFar t own number r before after (sum + k) e.from
+  one_more {after} {x} {s} {e} so_far a m same =
       record {
         counts = m.counts;
-        kept = λ q some. m.kept q (s.kept q some);
+        kept = λ q some. m.kept q (so_far.kept q some);
         targets = targets;
-        sums = omega (arith, ahead_more (own r) number law.none skip letters letter, s.sums);
+        sums = omega (arith, ahead_more (own r) number law.none a, so_far.sums);
       }
     where
-      targets : (y : ℕ) → y < e → Counted t after (target t r y)
-      targets y below there =
+      targets : (y : ℕ) → y < e.from → Counted t after (target t r y)
+      targets y below =
           elim (ℕ_discrete y x) [
-            | yes same ↦ rw same (m.here (rw same at there))
+            | yes same ↦ rw (same, ← a.to) m.here
             | no other ↦
-                elim (lower-or-not y x) [
-                  | inl low ↦ let row = s.targets y low there in record { used = row.used; some = m.kept _ row.some }
-                  | inr high ↦ absurd (omega (arith, skip.none y (omega arith) below))
+                elim (lower-or-not y s.from) [
+                  | inl low ↦ λ there. let row = so_far.targets y low there in record { used = row.used; some = m.kept _ row.some }
+                  | inr high ↦ λ there. absurd (omega (arith, a.next.none y high (omega (arith, a.from))))
                 ]
           ]
 
   -- the sum is small, since each of the letters has added a cut number at most
-  pub sum-small : {before after : List ℕ} {sum x : ℕ} → SoFar t own number r before after sum x → sum ≤ own r + letters * most
-  sum-small {x} s =
+  pub sum-small : {before after : List ℕ} {sum x : ℕ} → SoFar t own number r before after sum x → x ≤ letters → sum ≤ own r + letters * most
+  sum-small {x} s in_row =
       let given : ℕ → ℕ = λ y. number (target t r y) in
-      omega (
-        arith,
-        s.sums,
-        total-more given (min x letters) letters (omega arith),
-        total-most given most letters (λ y. law.low (target t r y)),
-      )
+      omega (arith, s.sums, total-more given x letters in_row, total-most given most letters (λ y. law.low (target t r y)))
 
-  -- all letters are passed: the row may be counted
-  module _ {before after : List ℕ} {sum x k : ℕ} (s : SoFar t own number r before after sum x) (u : Used t r) (all : letters ≤ x)
+  -- no arc is left: the row may be counted
+  module _ {before after : List ℕ} {sum x k : ℕ} (s : SoFar t own number r before after sum x) (u : Used t r) (end : NextArc t r x letters)
       (sum-cut : k ≡ min sum most) where
     pub sum_number : k ≡ number r
-    sum_number =
-        let end : min x letters ≡ letters = omega arith in
-        let sums : sum ≡ sum_by (own r) number t r letters = rw end at s.sums in
-        omega (arith, law.row r u)
+    sum_number = omega (arith, s.sums, ahead-skip (own r) number law.none end letters end.from (omega arith), law.row r u)
+
+    targets : (y : ℕ) → y < letters → Counted t after (target t r y)
+    targets y letter =
+        elim (lower-or-not y x) [
+          | inl low ↦ s.targets y low
+          | inr high ↦ λ there. absurd (omega (arith, end.none y high letter))
+        ]
 
     pub row-numbered : NumberedMore t number r before (set after r k)
     row-numbered =
@@ -172,6 +170,6 @@ module _ {t : Table} {most : ℕ} {own number : ℕ → ℕ} (law : Sums t most 
         below : (q y : ℕ) → Arc t q y → 0 < count_at (set after r k) q → 0 < count_at after (target t q y)
         below q y a some =
             elim (ℕ_discrete q r) [
-              | yes e ↦ rw e (s.targets y (omega (arith, a.letter)) (rw e at a.there)).some
+              | yes e ↦ rw e (targets y a.letter (rw e at a.there)).some
               | no d ↦ s.counts.below q y a (rw (get_or-set_other after r q k 0 d) at some)
             ]

@@ -37,7 +37,7 @@ pub fn target_count(t: &[u16], r: usize, x: usize, counts: &[u16]) -> u32
 fn ends_count(t: &[u16], r: usize) -> u32
     ensures { result ≡ flag (ends t.now r) }
 {
-    if ends(t, r) { 1 } else { 0 }
+    u32::from(ends(t, r))
 }
 
 // How many words of the row stand before those that begin with letter x, by the array. A letter without
@@ -60,11 +60,7 @@ pub fn words_ahead(t: &[u16], r: usize, x: usize, counts: &[u16]) -> u32
 fn cut(n: u32) -> u16
     ensures { result ≡ cut n }
 {
-    if n <= MOST_NAMES as u32 {
-        n as u16
-    } else {
-        MOST_NAMES + 1
-    }
+    n.min(MOST_NAMES as u32 + 1) as u16
 }
 
 // How many words there are from n, cut; counts n, and so every row that is reached from it. Each row

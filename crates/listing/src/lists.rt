@@ -9,9 +9,9 @@ ghost use Rattle.rows.specs.Words.{words, names};
 ghost use Rattle.rows.specs.Tidy.{Used, Tidy};
 ghost use Rattle.listing.specs.Lists.{lines_behind, line_here};
 
-use letters::{LETTERS, LINE_END, LONGEST, byte_of};
+use letters::{LINE_END, LONGEST, byte_of};
 use printing::copy_front;
-use rows::{next_arc, start, target};
+use rows::{arcs_of, start};
 use walking::ends;
 
 // Writes the letters walked, and a line end, where a name may end at the row.
@@ -36,13 +36,10 @@ fn write_from(t: &[u16], r: usize, word: [u8; LONGEST], depth: usize, out: &mut 
     ensures buffer { out.new ≡ overlaid (lines_behind (take depth word) (words t.now r)) out.old }
 {
     let mut bytes = write_line_here(t, r, word, depth, out);
-    let mut x = next_arc(t, r, 0);
-    while x < LETTERS {
-        let s = target(t, r, x) as usize;
+    for (x, s) in arcs_of(t, r) {
         let mut longer = word;
         longer[depth] = byte_of(x);
         bytes += write_from(t, s, longer, depth + 1, &mut out[bytes..]);
-        x = next_arc(t, r, x + 1);
     }
     bytes
 }

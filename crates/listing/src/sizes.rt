@@ -8,18 +8,14 @@ ghost use Rattle.counting.specs.Counts.{Counts, Counted};
 ghost use Rattle.listing.specs.Sizes.{cut_size, byte_count, Sizes, SizesMore};
 
 use counting::{count_at, count_names};
-use letters::{LETTERS, LONGEST_LIST};
-use rows::{MOST_ROWS, next_arc, start, target};
+use letters::LONGEST_LIST;
+use rows::{MOST_ROWS, arcs_of, start};
 
 // A number of bytes, cut.
 fn cut_size(n: u32) -> u32
     ensures { result ≡ cut_size n }
 {
-    if n <= LONGEST_LIST as u32 {
-        n
-    } else {
-        LONGEST_LIST as u32 + 1
-    }
+    n.min(LONGEST_LIST as u32 + 1)
 }
 
 // How many bytes the words from n have, each followed by 0x0A, cut; counts n, and so every row that is
@@ -39,11 +35,8 @@ fn size_from(t: &[u16], n: usize, counts: &[u16], sizes: &mut [u32]) -> u32
         return known;
     }
     let mut sum = count_at(counts, n) as u32;
-    let mut x = next_arc(t, n, 0);
-    while x < LETTERS {
-        let s = target(t, n, x) as usize;
+    for (_, s) in arcs_of(t, n) {
         sum += size_from(t, s, counts, sizes);
-        x = next_arc(t, n, x + 1);
     }
     let all = cut_size(sum);
     sizes[n] = all;

@@ -25,10 +25,7 @@ pub struct Step {
 fn is_here(t: &[u16], r: usize, n: u32) -> bool
     ensures { result ≡ (ends t.now r && eqb n 0) }
 {
-    if !ends(t, r) {
-        return false;
-    }
-    n == 0
+    ends(t, r) && n == 0
 }
 
 // The words behind the empty one, of those that stand before the word.
@@ -46,6 +43,7 @@ fn step_to(t: &[u16], r: usize, n: u32, counts: &[u16]) -> Step
     ensures { Leads t.now r n result }
 {
     let mut left = longer(t, r, n);
+    // A while: the next letter is the first of those left in the set, found by its bit, and not counted.
     let mut set = letter_set(t, r);
     let mut x = first_letter(set) as usize;
     let mut here = target_count(t, r, x, counts);
@@ -67,6 +65,7 @@ pub fn write_word(t: &[u16], r: usize, n: u32, counts: &[u16], out: &mut [u8]) -
 {
     let mut row = r;
     let mut left = n;
+    // A while: a loop over the bytes of the buffer would have two ends, since a word may fill the buffer.
     let mut i = 0;
     while !is_here(t, row, left) {
         let s = step_to(t, row, left, counts);

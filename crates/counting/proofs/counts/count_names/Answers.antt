@@ -7,8 +7,3 @@ pub count_from-requires : goal.count_from-requires
 count_from-requires c =
     let (tidy, mission, zeros) = c.requires in
     rw (zeros, c.start-r.ensures) (zeros-numbered _ tidy tidy.most, start-named c.args.t.now tidy c.args.m mission)
-
-pub returns : goal.returns
-returns c =
-    let more = (rw c.start-r.ensures at c.count_from.ensures.counted) in let number = (rw c.start-r.ensures at c.count_from.ensures.number) in
-    (record { counted = (more.counts, more.here); number = number })

@@ -1,12 +1,8 @@
-use Prim.Native.Nat.{◌≤◌}
-use mathlib.Core.Path.{refl, ◌∙◌, sym}
-use borrow.Author.Rules.{rules}
+use mathlib.Core.Path.{◌∙◌, sym}
 use native.Mathlib.Omega.{arith}
 use Rattle.letters.specs.LetterSet.{flag}
 use Rattle.letters.proofs.LetterSet.{flag-le}
-use Rattle.sets.specs.Below.{total}
 use Rattle.rows.specs.Table.{ends}
-use Rattle.rows.specs.Arcs.{ArcsOf}
 use Rattle.rows.proofs.Stepping.{goes, gone}
 use Rattle.counting.specs.Counts.{count_at}
 use Rattle.counting.proofs.Ahead.{ahead_none, ahead-skip, ahead_more}

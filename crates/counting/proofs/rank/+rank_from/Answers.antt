@@ -48,17 +48,6 @@ begins bound c =
     let (letter, left) = spelled-rest c.args.name.now (omega arith) spelled in
     (counted (omega arith), rw c.letter_of-x.ensures letter, left)
 
-pub words_ahead-before-requires : goal.words_ahead-before-requires
-words_ahead-before-requires bound c =
-    let counts = c.requires.0 in
-    let (row, letter, left) = begins bound c in
-    (counts.tidy, row.used, omega arith, counts.long, counts.none)
-
-pub target-next-requires : goal.target-next-requires
-target-next-requires bound c =
-    let (row, letter, left) = begins bound (goal.at.target-next-requires bound c).After-letter_of-x in
-    (row.used.inside, letter)
-
 pub rank_from-requires : goal.rank_from-requires
 rank_from-requires bound c =
     let (counts, counted, few, spelled) = c.requires in

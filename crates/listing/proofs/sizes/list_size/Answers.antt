@@ -7,6 +7,3 @@ pub size_from-requires : goal.size_from-requires
 size_from-requires c =
     let (counts, counted) = c.count_names-r.ensures.counted in
     rw c.start-r.ensures (counts, counted, zeros-numbered _ counts.tidy counts.tidy.most)
-
-pub returns : goal.returns
-returns c = rw c.start-r.ensures at c.size_from.ensures.number

@@ -1,31 +1,16 @@
 use native.Mathlib.Omega.{arith}
 use mathlib.Core.Path.{sym, ◌∙◌}
-use Rattle.listing.proofs.Steps.{row-used}
-use Rattle.listing.proofs.Spelling.{begun-none, goes_on, next-lower, inside, begun_more, begun-whole}
+use Rattle.listing.proofs.Spelling.{begun-none, next-lower, inside, begun_more, begun-whole}
 use Rattle.listing.proofs.word.write_word.Goals as goal
 
 pub loop-s-init : goal.loop-s-init
 loop-s-init c = let (listable, below, fits) = c.requires in begun-none _ listable below
-
-pub step_to-s-requires : goal.step_to-s-requires
-step_to-s-requires c =
-    let s = c.loop-s.invariant in
-    let on = sym c.is_here.ensures ∙ c.loop-s-test.true in
-    (s.listable, goes_on s on, s.under)
 
 pub bounds-out-i : goal.bounds-out-i
 bounds-out-i c =
     let (listable, below, fits) = c.requires in
     let s = c.loop-s.invariant in
     omega (arith, inside s c.step_to-s.ensures fits, s.front.long)
-
-pub target-row-requires : goal.target-row-requires
-target-row-requires c =
-    let s = c.loop-s.invariant in
-    ((row-used s.listable s.under).inside, c.step_to-s.ensures.letter)
-
-pub overflow_add-i : goal.overflow_add-i
-overflow_add-i c = omega (arith, c.loop-s.invariant.room)
 
 pub loop-s-smaller : goal.loop-s-smaller
 loop-s-smaller c =
@@ -36,9 +21,6 @@ loop-s-preserved c =
     let (listable, below, fits) = c.requires in
     rw (c.byte_of.ensures, c.target-row.ensures)
     (begun_more c.loop-s.invariant c.step_to-s.ensures fits)
-
-pub shape_of-out : goal.shape_of-out
-shape_of-out c = c.loop-s.invariant.front.long
 
 pub returns : goal.returns
 returns c =
