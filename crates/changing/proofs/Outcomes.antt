@@ -6,6 +6,7 @@ use mathlib.Core.Path.{◌≡◌, refl, sym, ◌∙◌}
 use mathlib.Core.Bool.{Bool, true, false, cond, not, beq, false≢true}
 use mathlib.Core.List.{List, []}
 use lib.ListN.{length, drop}
+use Rattle.std.specs.Prelude.{Ok, Err}
 use Rattle.letters.specs.LetterSet.{flag}
 use Rattle.letters.specs.Words.{Word, Spelled, word_of, same as same_word}
 use Rattle.letters.specs.Names.{is_name}
@@ -36,13 +37,10 @@ use Rattle.settling.specs.Settled.{fits, Startable, Settles, Changed}
 use Rattle.settling.proofs.Settling.{no-row-startable, clear-fits, settled}
 use Rattle.answers.specs.declared.cases.Refusal.{Refusal}
 use Rattle.answers.specs.declared.cases.Refusal.TheVariants.{Name}
-use Rattle.answers.specs.declared.cases.Answer.TheVariants as answer
-use Rattle.answers.specs.Replies.{answer_reply}
+use Rattle.answers.specs.Replies.{refusal_number, answer_reply}
 use Rattle.promises.specs.Books.{book_of}
 use Rattle.promises.specs.Promises.{Changes}
-use Rattle.admitting.specs.declared.admits.Admission.{Admission}
-use Rattle.admitting.specs.declared.admits.Admission.TheVariants.{Refused}
-use Rattle.admitting.specs.Admissions.{if_fine, first_tests, admission_number}
+use Rattle.admitting.specs.Admissions.{if_fine, first_tests}
 use Rattle.admitting.proofs.Admitting.{first-begins, refused-first}
 use Rattle.ending.specs.Ending.{settled_answer}
 use Rattle.ending.proofs.Changes.{refused-changes, same-changes, same-fits, fits-or-not, done-changes, settled-changes}
@@ -67,15 +65,15 @@ set-ruled b true m name = run-ruled b (add m name)
 set-ruled b false m name = run-ruled b (remove m name)
 
 -- their first tests refuse them
-pub set-refused : (t : Table) (on : Bool) (m : ℕ) (name : List ℕ) {a : Admission} {r : Refusal} → a ≡ Refused r
-    → admission_number a ≡ given (first_tests (book_of t) m (if_fine (is_name name) Name)) → Changes t t (set_call on m name) (answer_reply (answer.Refused r))
-set-refused t on m name {a} {r} told e =
+pub set-refused : (t : Table) (on : Bool) (m : ℕ) (name : List ℕ) (why : Refusal)
+    → refusal_number why ≡ given (first_tests (book_of t) m (if_fine (is_name name) Name)) → Changes t t (set_call on m name) (answer_reply (Err why))
+set-refused t on m name why number =
     let b = book_of t in
     let more = drop 4 (set_rule on b m name).refusals in
-    refused-changes t (set_call on m name) r
+    refused-changes t (set_call on m name) why
     (set-ruled b on m name
     ∙ refused-first b (set_rule on b m name) (first_tests b m (if_fine (is_name name) Name)) more
-    (first-begins b m (is_name name) Name more) told e)
+    (first-begins b m (is_name name) Name more) why number)
 
 module _ (t : Table) (s : sound t ≡ true) (m : ℕ) (h : m < missions) where
   abbrev list : Words
@@ -93,7 +91,7 @@ module _ (t : Table) (s : sound t ≡ true) (m : ℕ) (h : m < missions) where
         set-ruled (book_of t) on m name ∙ rw (sound-length t s, mission-under m h, named, s, e) (fits-or-not t m wanted (book_of t) _ done f)
 
     -- the name is as wanted already
-    pub set_same : member (word_of name) list ≡ on → Changes t t (set_call on m name) (answer_reply (answer.Done 0))
+    pub set_same : member (word_of name) list ≡ on → Changes t t (set_call on m name) (answer_reply (Ok 0))
     set_same e =
         same-changes t (set_call on m name) (set-run on e true (sym (rw same (same-fits t s m))) ∙ rw (same, replace-itself) (go on))
       where
@@ -154,12 +152,12 @@ module _ (t : Table) (s : sound t ≡ true) (m : ℕ) (h : m < missions) where
   unfolding run
   clear-run b e = rw (sound-length t s, mission-under m h, s, e)
 
-  pub clear_none : start t m ≡ 0 → Changes t t (clear m) (answer_reply (answer.Done 0))
+  pub clear_none : start t m ≡ 0 → Changes t t (clear m) (answer_reply (Ok 0))
   clear_none e =
       let none = no_start t m h e in
       same-changes t (clear m) (clear-run false (rw none) ∙ rw (← none, replace-itself))
 
-  pub clear-settled : 0 < start t m → (after : Table) (done : Bool) → Settles t after m 0 done → Changes t after (clear m) (answer_reply (answer.Done 1))
+  pub clear-settled : 0 < start t m → (after : Table) (done : Bool) → Settles t after m 0 done → Changes t after (clear m) (answer_reply (Ok 1))
   clear-settled some after done settles =
       let tidy = (sound-facts t s).tidy in
       let none : words t 0 ≡ [] = words-none t 0 (no_row t 0 refl) in

@@ -7,7 +7,7 @@ ghost use Rattle.index.specs.Index.{Indexed};
 ghost use Rattle.answers.specs.Replies.{answer_reply};
 ghost use Rattle.promises.specs.Promises.{Changes, Promised};
 
-use admitting::{Admission, admit_indexed};
+use admitting::admit_indexed;
 use answers::Answer;
 use index::INDEX;
 use rows::start;
@@ -19,18 +19,16 @@ fn clear_list(t: &mut [u16], index: &[u16], m: usize) -> Answer
     ensures { Changes t.old t.new (clear m) (answer_reply result) }
 {
     if start(t, m) == 0 {
-        return Answer::Done(0);
+        return Ok(0);
     }
     settle(t, index, m, 0);
-    Answer::Done(1)
+    Ok(1)
 }
 
 pub fn clear(t: &mut [u16], m: u32) -> Answer
     ensures { Promised t.old t.new [] [] (clear m) (answer_reply result) }
 {
     let mut index = [0u16; INDEX];
-    match admit_indexed(t, m, Admission::Admitted, &mut index) {
-        Admission::Admitted => clear_list(t, &index, m as usize),
-        Admission::Refused(r) => Answer::Refused(r),
-    }
+    admit_indexed(t, m, Ok(()), &mut index)?;
+    clear_list(t, &index, m as usize)
 }

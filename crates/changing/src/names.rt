@@ -10,10 +10,10 @@ ghost use Rattle.answers.specs.Replies.{answer_reply};
 ghost use Rattle.promises.specs.Promises.{Changes, Promised};
 ghost use Rattle.changing.specs.Changing.{set_call, Settable};
 
-use admitting::{Admission, admit_indexed, if_fine};
+use admitting::{admit_indexed, if_fine};
 use answers::{Answer, Refusal};
 use ending::settled;
-use growing::Made;
+use growing::Full;
 use index::INDEX;
 use letters::is_name;
 use naming::path;
@@ -29,8 +29,8 @@ fn change_name(t: &mut [u16], index: &mut [u16], m: usize, name: &[u8], on: bool
 {
     let r = start(t, m);
     match path(t, index, r, name, on) {
-        Made::Row(n) => settled(settle(t, index, m, n), 1),
-        Made::Full => Answer::Refused(Refusal::NoRoom),
+        Ok(n) => settled(settle(t, index, m, n), 1),
+        Err(Full) => Err(Refusal::NoRoom),
     }
 }
 
@@ -40,7 +40,7 @@ fn set_name(t: &mut [u16], index: &mut [u16], m: usize, name: &[u8], on: bool) -
     ensures { Changes t.old t.new (set_call on m name.now) (answer_reply result) }
 {
     if has_name(t, m, name) == on {
-        return Answer::Done(0);
+        return Ok(0);
     }
     change_name(t, index, m, name, on)
 }
@@ -50,10 +50,8 @@ fn set(t: &mut [u16], m: u32, name: &[u8], on: bool) -> Answer
     ensures { Changes t.old t.new (set_call on m name.now) (answer_reply result) }
 {
     let mut index = [0u16; INDEX];
-    match admit_indexed(t, m, if_fine(is_name(name), Refusal::Name), &mut index) {
-        Admission::Admitted => set_name(t, &mut index, m as usize, name, on),
-        Admission::Refused(r) => Answer::Refused(r),
-    }
+    admit_indexed(t, m, if_fine(is_name(name), Refusal::Name), &mut index)?;
+    set_name(t, &mut index, m as usize, name, on)
 }
 
 pub fn add(t: &mut [u16], m: u32, name: &[u8]) -> Answer

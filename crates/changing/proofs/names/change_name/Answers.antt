@@ -22,7 +22,7 @@ path-requires c =
 pub settle-requires : goal.settle-requires
 settle-requires c =
     let (given, _, _) = c.requires in
-    let made = rw (c.in-Row.is, c.start-r.ensures) at c.path.ensures.makes in (
+    let made = rw (c.in-Ok.is, c.start-r.ensures) at c.path.ensures.makes in (
       made.grows.tidy,
       c.path.ensures.indexed,
       omega (arith, given.mission),
@@ -30,15 +30,15 @@ settle-requires c =
       made-reached _ given.sound made,
     )
 
-pub returns-in-Row : goal.returns-in-Row
-returns-in-Row c =
+pub returns-in-Ok : goal.returns-in-Ok
+returns-in-Ok c =
     let (given, _, other) = c.requires in
-    let made = rw (c.in-Row.is, c.start-r.ensures) at c.path.ensures.makes in
+    let made = rw (c.in-Ok.is, c.start-r.ensures) at c.path.ensures.makes in
     rw c.settled.ensures
     (path-settled _ given.sound _ given.mission c.args.on _ given.named _ _ _ made other _ _ c.settle.ensures)
 
-pub returns-in-Full : goal.returns-in-Full
-returns-in-Full c =
+pub returns-in-Err : goal.returns-in-Err
+returns-in-Err c =
     let (given, _, _) = c.requires in
-    let full = rw c.in-Full.is at c.path.ensures.makes in
+    let full = rw c.in-Err.is at c.path.ensures.makes in
     absurd (never-full _ given.sound _ given.mission c.args.on _ given.named _ _ full)
