@@ -2,13 +2,12 @@
 -- are those of before. A buffer that is lent from some byte on comes back with more written behind those. What is written one after another,
 -- byte by byte or part by part, is written as one. Assumes nothing.
 use Prim.Native.Nat.{ℕ, suc, ◌+◌, ◌-◌, ◌≤◌, ◌<◌}
-use native.Mathlib.Nat.{add-zero}
 use native.Mathlib.Numerals.{add-one}
 use native.Mathlib.Omega.{arith}
 use mathlib.Core.Path.{◌≡◌, refl, sym, ◌∙◌}
 use mathlib.Core.List.{List, [], ◌∷◌, ◌++◌, append_assoc, append-nil}
 use lib.ListN.{length, take, drop, set, length-append, length-drop, length-set, length-take, take-append-drop, drop_of_length-le}
-use lib.Seq.{take_all, take_at, drop_at, drop-append-add, drop-cons, drop-drop, drop-set-lt, set_at, take-suc-set, length-take-le}
+use lib.Seq.{take_all, take_at, drop-append-add, drop-cons, drop-drop, drop-set-lt, set_at, take-suc-set}
 use Rattle.model.specs.Call.{overlaid}
 
 -- a buffer of which the first i bytes may have been written, and no others
@@ -63,24 +62,6 @@ lent_back a w buffer =
       drop-drop,
       append_assoc,
     )
-
-pub lent-unwritten : (a : ℕ) (buffer : List ℕ) → back a buffer (overlaid [] (lent a buffer)) ≡ buffer
-lent-unwritten a buffer = lent_back a [] buffer ∙ rw (append-nil, add-zero, take-append-drop)
-
--- so more is written
-module _ {a : ℕ} {before after : List ℕ} (w : List ℕ) (f : Front a before after) (fits : a + length w ≤ length before) where
-  length-joined : length (take a after ++ w) ≡ a + length w
-  length-joined = rw (length-append, length-take-le a after (omega (arith, f.long)))
-
-  pub front-lent : Front (a + length w) before ((take a after ++ w) ++ drop (a + length w) after)
-  front-lent =
-      record {
-        long = simp (length-append, length-take, length-drop) (omega (arith, f.long));
-        rest = drop_at (take a after ++ w) _ (a + length w) length-joined ∙ rest-later a (length w) after before f.rest;
-      }
-
-  pub take-lent : take (a + length w) ((take a after ++ w) ++ drop (a + length w) after) ≡ take a after ++ w
-  take-lent = take_at (take a after ++ w) _ (a + length w) length-joined
 
 -- w, of i bytes, was written to the front of the buffer and nothing behind it; then one more byte, or a part that was lent for it
 pub record Wrote (i : ℕ) (w before after : List ℕ) : Type 0 where

@@ -7,9 +7,5 @@ pub fn copy_front(from: &[u8], n: usize, out: &mut [u8])
     requires { (n ≤ length from.now) × (n ≤ length out.old) }
     ensures { out.new ≡ overlaid (take n from.now) out.old }
 {
-    let mut i = 0;
-    while i < n {
-        out[i] = from[i];
-        i += 1;
-    }
+    out[..n].copy_from_slice(&from[..n]);
 }

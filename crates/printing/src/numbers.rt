@@ -20,6 +20,7 @@ pub fn put_number(n: u64, out: &mut [u8]) -> usize
         out[0] = digit(n);
         return 1;
     }
+    // By hand: itoa writes at the end of a buffer, and the digits would be copied from there to the front.
     let long = put_number(n / 10, out);
     out[long] = digit(n % 10);
     long + 1

@@ -4,7 +4,7 @@ use Prim.Native.Nat.{◌+◌, ◌<◌}
 use native.Mathlib.Omega.{arith}
 use mathlib.Core.Path.{refl, ◌∙◌}
 use borrow.Author.Rules.{rules}
-use lib.ListN.{length, length-set}
+use lib.ListN.{length}
 use lib.Seq.{take-length}
 use Rattle.letters.specs.Letters.{line_end}
 use Rattle.printing.specs.Printed.{field}
@@ -29,15 +29,6 @@ value-fits : (c : After-put_field-at) → let s = c.args in
     length s.line.now + c.put_field-at.result + length (field s.value) < length s.out.now
 value-fits c = omega (arith, c.put_field-at.ensures.long, fields_fit (goal.at.After-put_field-at c).Start)
 
-pub overflow_add-at : goal.overflow_add-at
-overflow_add-at c = let room = value-fits (goal.at.overflow_add-at c).After-put_field-at in search rules
-
-pub slice_bounds-put_field-count-2 : goal.slice_bounds-put_field-count-2
-slice_bounds-put_field-count-2 c = let room = value-fits (goal.at.slice_bounds-put_field-count-2 c).After-put_field-at in search rules
-
-pub slice_bounds-put_field-start-2 : goal.slice_bounds-put_field-start-2
-slice_bounds-put_field-start-2 c = let room = value-fits (goal.at.slice_bounds-put_field-start-2 c).After-put_field-at in search rules
-
 pub put_field-at-requires-2 : goal.put_field-at-requires-2
 put_field-at-requires-2 c =
     let room = value-fits (goal.at.put_field-at-requires-2 c).After-put_field-at in
@@ -48,17 +39,8 @@ end_fits : (c : After-put_field-at-2) → let s = c.args in
     length s.line.now + c.put_field-at.result + c.put_field-at-2.result < length s.out.now
 end_fits c = omega (arith, c.put_field-at-2.ensures.long, value-fits (goal.at.After-put_field-at-2 c).After-put_field-at)
 
-pub overflow_add-at-2 : goal.overflow_add-at-2
-overflow_add-at-2 c = let room = end_fits (goal.at.overflow_add-at-2 c).After-put_field-at-2 in search rules
-
 pub bounds-out-at : goal.bounds-out-at
 bounds-out-at c = let room = end_fits (goal.at.bounds-out-at c).After-put_field-at-2 in search rules
-
-pub overflow_add-result : goal.overflow_add-result
-overflow_add-result c = let room = end_fits (goal.at.overflow_add-result c).After-put_field-at-2 in search rules
-
-pub shape_of-out : goal.shape_of-out
-shape_of-out c = simp length-set (omega arith)
 
 pub returns : goal.returns
 returns c =

@@ -3,7 +3,6 @@
 use Prim.Native.Nat.{◌+◌, ◌<◌}
 use native.Mathlib.Nat.{add_comm}
 use native.Mathlib.Omega.{arith}
-use mathlib.Core.Path.{◌≡◌, ◌∙◌}
 use borrow.Author.Rules.{rules}
 use lib.ListN.{length, length-take, length-drop, length-set}
 use Rattle.letters.specs.Letters.{line_end}
@@ -11,12 +10,6 @@ use Rattle.printing.specs.Printed.{field}
 use Rattle.printing.proofs.Buffers.{overlaid-wrote, wrote_none, wrote-byte, wrote-part}
 use Rattle.printing.proofs.Decimal.{field-short}
 use Rattle.printing.proofs.answers.put_other.Goals as goal
-
-pub slice_bounds-put_field-count : goal.slice_bounds-put_field-count
-slice_bounds-put_field-count c = simp length-set (omega arith)
-
-pub slice_bounds-put_field-start : goal.slice_bounds-put_field-start
-slice_bounds-put_field-start c = simp length-set (omega arith)
 
 pub put_field-at-requires : goal.put_field-at-requires
 put_field-at-requires c =
@@ -28,19 +21,8 @@ room : (c : goal.After-slice_known-2-1) → c.put_field-at.result + 1 < length c
 room c =
     omega (arith, c.requires, c.put_field-at.ensures.long, field-short c.args.n (omega (arith, c.ranges.n)))
 
-pub overflow_add-at : goal.overflow_add-at
-overflow_add-at c = let inside = room c in search rules
-
 pub bounds-out-at : goal.bounds-out-at
-bounds-out-at c = rw (c.out-1.given.1, length-set) (room c)
-
-pub overflow_add-result : goal.overflow_add-result
-overflow_add-result c = let inside = room c in search rules
-
-pub shape_of-out : goal.shape_of-out
-shape_of-out c =
-    let long : _ ≡ length c.args.out.now = c.out-1.given.1 ∙ simp length-set in
-    search rules
+bounds-out-at c = let inside = room c in search rules
 
 pub returns : goal.returns
 returns c =

@@ -31,9 +31,6 @@ room t c =
 pub bounds-out-long : goal.bounds-out-long
 bounds-out-long t c = let inside = room t c in search rules
 
-pub overflow_add-result : goal.overflow_add-result
-overflow_add-result t c = let inside = room t c in search rules
-
 pub returns : goal.returns
 returns t c =
     let called = c.put_number-long in
