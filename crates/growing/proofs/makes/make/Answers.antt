@@ -55,7 +55,7 @@ written : (c : After-write_row) →
     let args = c.args in
     NewRow args.t.now c.write_row.new.t (get_or args.index.now 0 0) args.mark (height_over args.t.now args.targets) args.targets
 written c =
-    rw (c.free_row-free.ensures, c.height_over-height.ensures) at c.write_row.ensures
+    rw (← c.free_row-free.ensures, ← c.height_over-height.ensures) c.write_row.ensures
 
 pub enter-requires : goal.enter-requires
 enter-requires c =
