@@ -38,6 +38,7 @@ fn build<'a>(
 {
     let mut ahead = first_ahead(first, second, at, name, depth);
     let mut targets = [0u16; LETTERS];
+    // A while: it goes on as long as what the group before hands back is deep enough; nothing is counted.
     while depth < ahead.deep {
         let places = ahead.places;
         let next = next_at(first, second, at, name, places);

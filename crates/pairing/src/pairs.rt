@@ -79,7 +79,7 @@ fn new_pair(
     settle_pair(t, index, seen, op, p, q, targets)
 }
 
-// The row of a pair.
+// The row of a pair. new_pair asks `known` itself: most pairs of targets are settled, and cost no call.
 fn pair(
     t: &mut [u16],
     index: &mut [u16],

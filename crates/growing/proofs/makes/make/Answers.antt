@@ -3,23 +3,13 @@
 use Prim.Native.Nat.{ℕ, ◌<◌}
 use mathlib.Core.Path.{◌≡◌, sym, ◌∙◌}
 use native.Mathlib.Omega.{arith}
-use mathlib.Core.List.{List}
 use lib.ListN.{get_or}
 use Rattle.letters.specs.Letters.{letters}
-use Rattle.rows.specs.Table.{Table}
-use Rattle.index.specs.Index.{Finds}
 use Rattle.growing.specs.Rows.{height_over, NewRow}
 use Rattle.growing.proofs.Entering.{Free, first-free, written-entering}
 use Rattle.growing.proofs.Making.{height-fits, targets-inside, none_made, found-made, full-made, new-made}
 use Rattle.growing.proofs.makes.make.Goals as goal
 use Rattle.growing.proofs.makes.make.Goals.{else-mark-eq1-via-then-mark-eq1+else-past_zeros-eq-LETTERS, else-mark-eq1-via-else-mark-eq1, After-write_row, Else-free-eq0, Joined-else-mark-eq1, Start}
-
--- what was written, and what was found, by other names of the numbers
-written_as : {t u : Table} {r s k h g : ℕ} {ts : List ℕ} → r ≡ s → h ≡ g → NewRow t u r k h ts → NewRow t u s k g ts
-written_as e d w = rw e at (rw d at w)
-
-found_none : {t : Table} {n k f : ℕ} {ts : List ℕ} → f ≡ 0 → Finds t n k ts f → Finds t n k ts 0
-found_none e d = rw e at d
 
 pub returns-then-past_zeros-eq-LETTERS-clause-makes : goal.returns-then-past_zeros-eq-LETTERS-clause-makes
 returns-then-past_zeros-eq-LETTERS-clause-makes c =
@@ -65,7 +55,7 @@ written : (c : After-write_row) →
     let args = c.args in
     NewRow args.t.now c.write_row.new.t (get_or args.index.now 0 0) args.mark (height_over args.t.now args.targets) args.targets
 written c =
-    written_as c.free_row-free.ensures c.height_over-height.ensures c.write_row.ensures
+    rw (← c.free_row-free.ensures, ← c.height_over-height.ensures) c.write_row.ensures
 
 pub enter-requires : goal.enter-requires
 enter-requires c =
@@ -80,5 +70,5 @@ returns-clause-makes c =
     let none : c.find-same.result ≡ 0 = omega arith in
     let at = goal.at.returns-clause-makes c in
     rw c.free_row-free.ensures
-    (new-made _ _ _ tidy fitting _ (some at.Joined-else-mark-eq1) (found_none none c.find-same.ensures) _ (free at.Else-free-eq0)
+    (new-made _ _ _ tidy fitting _ (some at.Joined-else-mark-eq1) (rw none at c.find-same.ensures) _ (free at.Else-free-eq0)
     (written at.After-write_row))
