@@ -38,17 +38,15 @@ fn walk_from(t: &[u16], first: usize, word: &[u8]) -> Way
     ensures { result ≡ way t.now word.now first }
 {
     let mut row = first;
-    let mut left = word;
-    while let Some((b, rest)) = left.split_first() {
+    for (i, b) in word.iter().enumerate() {
         let next = leads_to(t, row, *b);
         if !is_row(t, next) {
             return Way {
                 row: 0,
-                left: left.len(),
+                left: word.len() - i,
             };
         }
         row = next;
-        left = rest;
     }
     Way { row, left: 0 }
 }
