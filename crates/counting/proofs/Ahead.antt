@@ -28,7 +28,7 @@ use Rattle.rows.specs.Tidy.{Used, Arc, Tidy}
 use Rattle.rows.specs.Skips.{NextArc}
 use Rattle.rows.specs.Arcs.{Goes}
 use Rattle.rows.specs.declared.arcs.Arcs.{Arcs}
-use Rattle.rows.proofs.Facts.{no_row, used-row, named-inside}
+use Rattle.rows.proofs.Facts.{no_row, used-row}
 use Rattle.rows.proofs.Words.{words_row, words-none}
 use Rattle.counting.specs.Ahead.{sum_by, ahead_by, ahead}
 use Rattle.counting.specs.Counts.{count_at, Counts, CountedRow, Counted}
@@ -148,10 +148,6 @@ module _ (t : Table) (tidy : Tidy t) (r : ℕ) (u : Used t r) where
       (get_or-append-add (ended (ends t r)) _ _ [] ∙ over-at _ letters x n [] h (rw length-map below) ∙ nth-behind x (given x) n below)
 
 module _ (t : Table) (counts : List ℕ) (c : Counts t counts) where
-  -- the array has a number for every row that is counted, and for 0
-  pub count-inside : (n : ℕ) → Counted t counts n → n < length counts
-  count-inside n counted = omega (arith, named-inside t c.tidy n (λ some. (counted some).used), c.long)
-
   pub count-exact : (n : ℕ) → Counted t counts n → length (words t n) ≤ most_names → count_at counts n ≡ length (words t n)
   count-exact n counted few =
       elim (ℕ_discrete n 0) [

@@ -63,11 +63,6 @@ zeros-numbered {t} {n} number tidy long = record {
   below = λ r x a some. absurd (omega (arith, zero-cell n r));
 }
 
--- of 0, or of a row that is counted, there is nothing to do
-pub numbered-before : {t : Table} {number : ℕ → ℕ} {n : ℕ} {counts : List ℕ} → Numbered t number counts → Counted t counts n
-    → NumberedMore t number n counts counts
-numbered-before c here = record { counts = c; kept = λ s some. some; here = here }
-
 -- as far as letter x: the targets are counted, and so are the rows that were counted before; the sum has their numbers
 pub record SoFar (t : Table) (own number : ℕ → ℕ) (r : ℕ) (before after : List ℕ) (sum x : ℕ) : Type 0 where
   pub counts : Numbered t number after

@@ -4,7 +4,6 @@ use Prim.Native.Nat.{ℕ, suc, ◌+◌, ◌*◌, ◌<◌}
 use mathlib.Core.Path.{◌≡◌, refl}
 use mathlib.Core.Bool.{Bool, true, false}
 use native.Mathlib.Omega.{arith}
-use native.Mathlib.Nat.{mul-le-mul_left, le_of_lt}
 use borrow.Author.Tests.{eq-eqb, ne_eqb, eqb-true, eqb-false}
 use lib.Dec.{eqb}
 use Rattle.letters.specs.Letters.{letters}
@@ -12,11 +11,7 @@ use Rattle.rows.specs.Table.{Table, row_count, mark}
 use Rattle.rows.specs.Tidy.{Used}
 use Rattle.sets.specs.Below.{total}
 use Rattle.sets.proofs.Below.{total-agree}
-use Rattle.index.specs.Buckets.{modulus, factor, mix, product_bound, key_of, row_key, bucket_of, bucket, buckets}
-
--- a number of the table times a factor
-pub product_small : (n f : ℕ) → n < 65536 → f < modulus → n * f < product_bound
-product_small n f small low = omega (arith, mul-le-mul_left n (le_of_lt low))
+use Rattle.index.specs.Buckets.{factor, mix, key_of, row_key, bucket_of, bucket, buckets}
 
 pub same_key : (k : ℕ) (f g : ℕ → ℕ) → ((x : ℕ) → x < letters → f x ≡ g x) → key_of k f ≡ key_of k g
 unfolding mix

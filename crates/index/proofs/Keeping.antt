@@ -1,18 +1,16 @@
--- The keys stand behind the chains, and the numbers of arcs behind them, so a key that is kept leaves the chains, and a row that is chained leaves the
--- keys and the numbers of arcs. Assumes nothing.
-use Prim.Native.Nat.{ℕ, suc, ◌+◌, ◌≤◌, ◌<◌}
+-- The keys stand behind the chains, so a key that is kept leaves the chains. Assumes nothing.
+use Prim.Native.Nat.{ℕ, suc, ◌≤◌, ◌<◌}
 use mathlib.Core.Path.{◌∙◌}
 use mathlib.Core.List.{List}
 use native.Mathlib.Decide.{ℕ_discrete}
 use native.Mathlib.Omega.{arith}
-use lib.ListN.{get_or, set, replicate, length-set, length-replicate}
+use lib.ListN.{set, replicate, length-set, length-replicate}
 use lib.Seq.{get_or-set_same, get_or-set_other}
 use Rattle.rows.specs.Table.{Table, most_rows}
 use Rattle.rows.specs.Tidy.{Used}
 use Rattle.rows.proofs.Zeros.{zero-cell}
-use Rattle.chains.specs.Chains.{linked}
-use Rattle.index.specs.Buckets.{row_key, buckets}
-use Rattle.index.specs.Index.{key_place, arcs_place, index_length, Keys, Keyed, ArcsAt}
+use Rattle.index.specs.Buckets.{row_key}
+use Rattle.index.specs.Index.{key_place, index_length, Keyed}
 
 -- an array of zeros
 pub keyed-none : (t : Table) → Keyed t 0 (replicate index_length 0)
@@ -53,22 +51,3 @@ keyed-more t r index k inside =
 pub keyed-less : {t : Table} {n : ℕ} (m : ℕ) {index : List ℕ} → m ≤ n → Keyed t n index → Keyed t m index
 keyed-less m h k =
     record { keys = record { long = k.keys.long; at = λ q d u. k.keys.at q (omega arith) u }; blank = k.blank }
-
--- a row is chained
-pub keys-linked : {t : Table} {n : ℕ} {index : List ℕ} (b r : ℕ) → Keys t n index → b < buckets → r < most_rows → Keys t n (linked index buckets b r)
-keys-linked {t} {n} {index} b r k small inside =
-    let link = set index (buckets + r) (get_or index b 0) in
-    record {
-      long = simp length-set k.long;
-      at = λ q h u.
-          get_or-set_other link b (key_place q) r 0 (λ e. omega arith)
-          ∙ get_or-set_other index (buckets + r) (key_place q) (get_or index b 0) 0 (λ e. omega arith)
-          ∙ k.at q h u;
-    }
-
-pub arcs-linked : (t : Table) (index : List ℕ) (b r : ℕ) → ArcsAt t index → b < buckets → r < most_rows → ArcsAt t (linked index buckets b r)
-arcs-linked t index b r arcs small inside s some h =
-    let link = set index (buckets + r) (get_or index b 0) in
-    get_or-set_other link b (arcs_place s) r 0 (λ e. omega arith)
-    ∙ get_or-set_other index (buckets + r) (arcs_place s) (get_or index b 0) 0 (λ e. omega arith)
-    ∙ arcs s some h

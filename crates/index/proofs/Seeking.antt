@@ -16,7 +16,7 @@ use Rattle.sets.proofs.Below.{tests_agree, some_below_lem, below-some}
 use Rattle.rows.specs.Table.{Table, row_count, mark, target, row_targets, in_use}
 use Rattle.rows.specs.Rules.{agree, has_twin}
 use Rattle.rows.specs.Tidy.{Used}
-use Rattle.rows.proofs.Facts.{in-use-used, used-in-use}
+use Rattle.rows.proofs.Facts.{in-use-used}
 use Rattle.rows.proofs.Skipping.{lower-or-not, row_target}
 use Rattle.chains.specs.Chains.{Latest}
 use Rattle.chains.proofs.Chains.{latest-here}
@@ -46,14 +46,6 @@ pub record Seeks (t : Table) (n k : ℕ) (targets : List ℕ) (key r : ℕ) : Ty
   pub none : (q : ℕ) → r < q → q ≤ n → agrees t q k targets ≡ true → ⊥
 
 module _ {t : Table} {n k : ℕ} {targets : List ℕ} {key : ℕ} where
-  pub seeks-first : n < row_count t → (0 < n → bucket t n ≡ bucket_of key) → Seeks t n k targets key n
-  seeks-first inside here =
-      record {
-        low = omega arith;
-        there = λ some. (in-bucket t n _ some inside (here some), here some);
-        none = λ q above low e. omega arith;
-      }
-
   pub seeks-next : {r m : ℕ} → Wanted k targets key → 0 < r → Seeks t n k targets key r → has t r k targets ≡ false
       → Latest (λ q. bucket t q) (bucket t r) r m → Seeks t n k targets key m
   seeks-next {r} {m} wanted some s differs l =
@@ -71,22 +63,6 @@ module _ {t : Table} {n k : ℕ} {targets : List ℕ} {key : ℕ} where
                 | inr upper ↦ s.none q (omega arith) low e
               ]
             ];
-      }
-
-  pub seeks-found : {r : ℕ} → 0 < r → Seeks t n k targets key r → has t r k targets ≡ true → Finds t n k targets r
-  seeks-found some s e =
-      record {
-        low = s.low;
-        there = λ _. rw (used-in-use (s.there some).0, e);
-        none = λ none q low d. omega arith;
-      }
-
-  pub seeks-over : Seeks t n k targets key 0 → Finds t n k targets 0
-  seeks-over s =
-      record {
-        low = omega arith;
-        there = λ some. absurd (omega arith);
-        none = λ _ q low e. s.none q (agrees-used t q k targets e).positive low e;
       }
 
   -- where n is the last row of the bucket, no row agrees that is behind it

@@ -41,11 +41,7 @@ pub fn keep_arcs(arcs: &[u16], n: usize, index: &mut [u16])
     requires { (n ≤ length arcs.now) × (n ≤ most_rows) × (length index.old ≡ index_length) }
     ensures { Keeps arcs.now n index.old index.new }
 {
-    let mut r = 0;
-    while r < n {
-        index[ARCS + r] = arcs[r];
-        r += 1;
-    }
+    index[ARCS..ARCS + n].copy_from_slice(&arcs[..n]);
 }
 
 // Takes them out.
@@ -53,11 +49,7 @@ pub fn take_arcs(index: &[u16], n: usize, arcs: &mut [u16])
     requires { (n ≤ length arcs.old) × (n ≤ most_rows) × (length index.now ≡ index_length) }
     ensures { Takes index.now n arcs.new }
 {
-    let mut r = 0;
-    while r < n {
-        arcs[r] = index[ARCS + r];
-        r += 1;
-    }
+    arcs[..n].copy_from_slice(&index[ARCS..ARCS + n]);
 }
 
 // The bucket of a row, by its key in the index.
@@ -76,11 +68,8 @@ pub fn index_rows(t: &[u16], index: &mut [u16])
     requires { (0 < row_count t.now) × (row_count t.now ≤ most_rows) × Keyed t.now (row_count t.now) index.old × ArcsAt t.now index.old }
     ensures { Indexed t.now index.new }
 {
-    let k = row_count(t);
-    let mut r = 1;
-    while r < k {
+    for r in 1..row_count(t) {
         let b = bucket_at(t, index, r);
         link(index, BUCKETS, b, r);
-        r += 1;
     }
 }

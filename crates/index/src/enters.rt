@@ -7,10 +7,9 @@ ghost use Rattle.index.specs.Index.{index_length, Indexed, SomeChains, Gaps, Ent
 use super::builds::{ARCS, BUCKETS, keep_key};
 use super::keys::{bucket_of, key_of};
 use chains::last_of;
-use letters::LETTERS;
-use rows::{mark, next_arc, target, targets};
+use rows::{arcs_of, mark, targets};
 
-// The last free row, or 0.
+// The last free row, or 0: the array's own number for no row, and so no Option.
 pub fn free_row(index: &[u16]) -> usize
     requires { length index.now ≡ index_length }
     ensures { result ≡ get_or index.now 0 0 }
@@ -23,6 +22,7 @@ fn gap(index: &[u16], b: usize, r: usize) -> usize
     requires { (b < buckets) × SomeChains index.now }
     ensures { Gaps index.now b r result }
 {
+    // A while: it goes from row to row of a chain, and nothing is counted.
     let mut place = b;
     while r < last_of(index, place) {
         place = BUCKETS + last_of(index, place);
@@ -35,11 +35,8 @@ fn enter_arcs(t: &[u16], index: &mut [u16], r: usize)
     requires { Entering t.now r 0 index.old }
     ensures { Entering t.now r letters index.new }
 {
-    let mut x = next_arc(t, r, 0);
-    while x < LETTERS {
-        let n = target(t, r, x) as usize;
+    for (_, n) in arcs_of(t, r) {
         index[ARCS + n] += 1;
-        x = next_arc(t, r, x + 1);
     }
 }
 

@@ -18,10 +18,8 @@ fn has(t: &[u16], r: usize, wanted: u16, targets: &[u16]) -> bool
     ensures { result ≡ has t.now r wanted targets.now }
 {
     let mut same = mark(t, r) == wanted;
-    let mut x = 0;
-    while x < LETTERS {
+    for x in 0..LETTERS {
         same &= target(t, r, x) == targets[x];
-        x += 1;
     }
     same
 }
@@ -42,6 +40,7 @@ fn find_from(t: &[u16], index: &[u16], n: usize, wanted: u16, targets: &[u16], k
     requires { Indexed t.now index.now × Wanted wanted targets.now key × (n < row_count t.now) × (0 < n → bucket t.now n ≡ bucket_of key) }
     ensures { Finds t.now n wanted targets.now result }
 {
+    // A while: it goes from row to row of a chain, and nothing is counted.
     let mut r = n;
     while r != 0 {
         if is_wanted(t, index, r, wanted, targets, key) {
@@ -52,7 +51,8 @@ fn find_from(t: &[u16], index: &[u16], n: usize, wanted: u16, targets: &[u16], k
     0
 }
 
-// The row in use with this mark and these targets, whose key is given; or 0.
+// The row in use with this mark and these targets, whose key is given; or 0, the table's own number for no row, and so
+// no Option.
 pub fn find(t: &[u16], index: &[u16], wanted: u16, targets: &[u16], key: u16) -> usize
     requires { Indexed t.now index.now × Wanted wanted targets.now key }
     ensures { Finds t.now (row_count t.now) wanted targets.now result }

@@ -65,6 +65,7 @@ pub fn key_of(mark: u16, targets: &[u16]) -> u16
     ensures { result ≡ key_of mark (λ x. get_or targets.now x 0) }
 {
     let mut m = mixed_mark(mark);
+    // A while: it skips zeros eight at a time, which a `for` over all 37 targets would look at one by one.
     let mut x = next_target(targets, 0);
     while x < LETTERS {
         m = mixed(m, x, targets[x]);

@@ -4,14 +4,13 @@
 use Prim.Native.Nat.{ℕ, ◌+◌, ◌≤◌, ◌<◌}
 use native.Mathlib.Omega.{arith}
 use mathlib.Core.Path.{◌≡◌, refl, sym, ◌∙◌, ap}
-use mathlib.Core.Bool.{Bool, true, false, ◌&&◌, and-eq-true_iff}
+use mathlib.Core.Bool.{true, ◌&&◌, and-eq-true_iff}
 use mathlib.Core.List.{List, [], ◌∷◌, ◌++◌, append_assoc, append-nil}
 use lib.Dec.{eqb}
 use lib.ListN.{length, take, set, length-map}
 use lib.Seq.{length-take-le}
-use borrow.Author.Tests.{eqb-true, eqb-false}
+use borrow.Author.Tests.{eqb-true}
 use Rattle.letters.specs.Letters.{byte_of}
-use Rattle.letters.specs.LetterSet.{flag}
 use Rattle.letters.specs.Words.{bytes_of}
 use Rattle.letters.specs.Names.{longest}
 use Rattle.model.specs.Lists.{nth_of}
@@ -48,14 +47,6 @@ begun-none {t} {counts} {r} {n} buffer l below =
 module _ {t : Table} {counts : List ℕ} {r n : ℕ} {before after : List ℕ} {row left i : ℕ} (b : Begun t counts r n before after row left i) where
   used : Used t row
   used = row-used b.listable b.under
-
-  -- a word that does not end at the row goes on
-  pub goes_on : (ends t row && eqb left 0) ≡ false → flag (ends t row) ≤ left
-  goes_on = go (ends t row)
-    where
-      go : (here : Bool) → (here && eqb left 0) ≡ false → flag here ≤ left
-      go true e = let some = eqb-false left 0 e in omega arith
-      go false e = omega arith
 
   module _ {step : Step} (on : Leads t row left step) where
     abbrev next : ℕ

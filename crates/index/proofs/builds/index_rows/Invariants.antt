@@ -1,7 +1,5 @@
--- `index_rows` meets its promise. The loop's invariant: the rows below `r` are chained, and the keys and the numbers of arcs are there. The measure
--- is the rows that are left. Assumes nothing.
-use Prim.Native.Nat.{◌-◌, ◌≤◌, ◌<◌}
-use mathlib.Core.Path.{◌≡◌}
+-- `index_rows` meets its promise. The loop's invariant: the rows below `r` are chained, and the keys and the numbers of arcs are there. Assumes nothing.
+use Prim.Native.Nat.{◌≤◌, ◌<◌}
 use Rattle.rows.specs.Table.{row_count}
 use Rattle.chains.specs.Chains.{Chained}
 use Rattle.index.specs.Buckets.{bucket, buckets}
@@ -10,7 +8,4 @@ use Rattle.index.proofs.builds.index_rows.Given as goal
 
 abbrev pub invariant-loop-r : goal.invariant-loop-r
 invariant-loop-r l =
-    (l.k ≡ row_count l.t) × (0 < l.r) × (l.r ≤ l.k) × Keys l.t (row_count l.t) l.index × Chained buckets (λ q. bucket l.t q) l.r l.index × ArcsAt l.t l.index
-
-abbrev pub decreases-loop-r : goal.decreases-loop-r
-decreases-loop-r l = l.k - l.r
+    (0 < l.r) × (l.r ≤ row_count l.t) × Keys l.t (row_count l.t) l.index × Chained buckets (λ q. bucket l.t q) l.r l.index × ArcsAt l.t l.index

@@ -1,34 +1,27 @@
-use Prim.Native.Nat.{ℕ, ◌+◌, ◌<◌}
+-- `take_arcs` meets its promise: it writes the front of the array, with the part that begins behind the keys. Assumes nothing.
+use Prim.Native.Nat.{ℕ, ◌≤◌}
+use mathlib.Core.Path.{◌≡◌, ap, ◌∙◌}
+use mathlib.Core.List.{List, ◌++◌}
 use native.Mathlib.Omega.{arith}
-use native.Mathlib.Decide.{ℕ_discrete}
-use mathlib.Core.Path.{refl, ◌∙◌}
-use mathlib.Core.List.{List}
-use lib.ListN.{length, get_or, set, length-set}
-use lib.Seq.{get_or-set_same, get_or-set_other}
-use Rattle.index.specs.Index.{arcs_place}
-use Rattle.index.proofs.builds.take_arcs.Invariants.{TakenTo}
+use lib.ListN.{length, take, drop, get_or-append, length-append, length-drop}
+use lib.Seq.{length-take-le, get_or-take, get_or-drop}
+use Rattle.rows.specs.Table.{most_rows}
+use Rattle.index.specs.Index.{arcs_place, index_length, Takes}
 use Rattle.index.proofs.builds.take_arcs.Goals as goal
 
-taken_more : {index before arcs : List ℕ} {n : ℕ} → n < length before → TakenTo index before arcs n
-    → TakenTo index before (set arcs n (get_or index (arcs_place n) 0)) (n + 1)
-taken_more {index} {before} {arcs} {n} inside k =
-    let number = get_or index (arcs_place n) 0 in
+takes-part : (index arcs : List ℕ) (n k : ℕ) {part : List ℕ} → n ≤ length arcs → n ≤ most_rows → length index ≡ index_length
+    → part ≡ take k (drop (arcs_place 0) index) → k ≡ n → Takes index n (part ++ drop n arcs)
+takes-part index arcs n k {part} few inside long same size =
+    let behind = drop (arcs_place 0) index in
+    let parts : length part ≡ k = ap length same ∙ length-take-le k behind (simp length-drop (omega (arith, long))) in
     record {
-      long = length-set arcs n number ∙ k.long;
+      long = simp (length-append, length-drop) (omega (arith, parts));
       taken = λ r h.
-          elim (ℕ_discrete r n) [
-            | yes e ↦ rw e (get_or-set_same arcs n number 0 (omega (arith, k.long)))
-            | no e ↦ get_or-set_other arcs n r number 0 e ∙ k.taken r (omega arith)
-          ];
+          get_or-append part (drop n arcs) 0 r (omega (arith, parts))
+          ∙ rw same (get_or-take k behind r 0 (omega arith) ∙ get_or-drop (arcs_place 0) index r 0);
     }
-
-pub loop-r-init : goal.loop-r-init
-loop-r-init c = (omega arith, record { long = refl; taken = λ r h. absurd (omega arith) })
-
-pub loop-r-preserved : goal.loop-r-preserved
-loop-r-preserved c = (omega arith, taken_more (omega arith) c.loop-r.invariant.1)
 
 pub returns : goal.returns
 returns c =
-    let (low, k) = c.loop-r.invariant in
-    record { long = omega (arith, k.long); taken = λ r h. k.taken r (omega arith) }
+    let (few, inside, long) = c.requires in
+    takes-part c.args.index.now c.args.arcs.now c.args.n _ few inside long c.copy_from_slice.ensures.after (omega arith)

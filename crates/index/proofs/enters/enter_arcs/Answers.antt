@@ -1,24 +1,28 @@
 use Prim.Native.Nat.{ℕ, suc, ◌+◌, ◌<◌}
-use mathlib.Core.Path.{◌≡◌, sym, ap, ◌∙◌}
+use mathlib.Core.Path.{◌≡◌, sym, ◌∙◌}
 use mathlib.Core.List.{List}
-use native.Mathlib.Numerals.{add-one}
 use native.Mathlib.Decide.{ℕ_discrete}
 use native.Mathlib.Omega.{arith}
 use borrow.Author.Tests.{eq-eqb, ne_eqb}
 use lib.Dec.{eqb}
-use lib.ListN.{length, get_or, set, length-set}
+use lib.ListN.{get_or, set, length-set}
 use lib.Seq.{get_or-set_same, get_or-set_other}
 use Rattle.letters.specs.Letters.{letters}
 use Rattle.letters.specs.LetterSet.{flag}
 use Rattle.rows.specs.Table.{Table, row_count, target}
 use Rattle.rows.specs.Skips.{NextArc}
+use Rattle.rows.specs.Arcs.{Goes}
+use Rattle.rows.specs.declared.arcs.Arcs.{Arcs}
+use Rattle.rows.proofs.Stepping.{goes, gone}
 use Rattle.rows.proofs.Skipping.{past}
 use Rattle.chains.proofs.Chains.{chained_same}
 use Rattle.index.specs.Arcs.{arcs_from}
 use Rattle.index.specs.Index.{key_place, arcs_place, index_length, Entering}
 use Rattle.index.proofs.Arcs.{arcs-more, arcs-zero, arcs-fewer, below-most}
 use Rattle.index.proofs.enters.enter_arcs.Goals as goal
-use Rattle.index.proofs.enters.enter_arcs.Goals.{After-target-n}
+
+entering-at : {t : Table} {r x y : ℕ} {index : List ℕ} → y ≡ x → Entering t r x index → Entering t r y index
+entering-at same e = rw same e
 
 module _ {t : Table} {r : ℕ} {index : List ℕ} where
   -- a letter without a target changes nothing
@@ -50,7 +54,7 @@ module _ {t : Table} {r : ℕ} {index : List ℕ} where
         omega (arith, e.arcs n there (e.targets x letter), arcs-fewer t r x n (omega arith), below-most t (row_count t) n, e.chained.most)
 
     -- one more
-    entering-more : Entering t r (x + 1) (set index (arcs_place n) (get_or index (arcs_place n) 0 + 1))
+    entering-more : Entering t r (suc x) (set index (arcs_place n) (get_or index (arcs_place n) 0 + 1))
     entering-more =
         let count = get_or index (arcs_place n) 0 + 1 in
         let others : (i : ℕ) → (i ≡ arcs_place n → ⊥) → get_or (set index (arcs_place n) count) i 0 ≡ get_or index i 0 =
@@ -63,8 +67,7 @@ module _ {t : Table} {r : ℕ} {index : List ℕ} where
           keys = λ q used d. others (key_place q) (λ z. omega (arith, used.inside, e.chained.most)) ∙ e.keys q used d;
           targets = e.targets;
           arcs = λ s some h.
-              let more : arcs_from t r (x + 1) s ≡ arcs_from t r x s + flag (eqb n s) =
-              ap (λ (y : ℕ). arcs_from t r y s) (add-one x) ∙ arcs-more t r x s in
+              let more : arcs_from t r (suc x) s ≡ arcs_from t r x s + flag (eqb n s) = arcs-more t r x s in
               let before = e.arcs s some h in
               elim (ℕ_discrete s n) [
                 | yes d ↦
@@ -79,54 +82,29 @@ module _ {t : Table} {r : ℕ} {index : List ℕ} where
               ];
         }
 
-pub next_arc-x-requires : goal.next_arc-x-requires
-next_arc-x-requires c = (c.requires.used.inside, omega arith)
+  -- an arc, and the letters without a target before it
+  module _ {s e : Arcs} {x n : ℕ} (so_far : Entering t r s.from index) (a : Goes t r s e x n) where
+    abbrev here : Entering t r x index
+    here = entering-past a.next so_far
 
-pub loop-x-init : goal.loop-x-init
-loop-x-init c =
-    let next = c.next_arc-x.ensures in
-    (next.to, next.stops, entering-past next c.requires)
+    arc_fits : get_or index (arcs_place n) 0 + 1 < 65536
+    arc_fits = rw a.to (count_fits here a.inside (a.next.stops a.inside))
 
-pub target-n-requires : goal.target-n-requires
-target-n-requires c = (c.loop-x.invariant.2.used.inside, omega arith)
+    entering_arc : Entering t r e.from (set index (arcs_place n) (get_or index (arcs_place n) 0 + 1))
+    entering_arc = rw a.to (entering-at a.from (entering-more here a.inside (a.next.stops a.inside)))
 
--- all that the count asks
-counts : (c : After-target-n) →
-    let index = c.loop-x.index in
-    let place = arcs_place c.target-n.result in
-    (place < index_length) × (place < length index) × (get_or index place 0 + 1 < 65536)
-counts c =
-    let (low, stops, e) = c.loop-x.invariant in
-    let there = stops (omega arith) in
-    let inside = place_inside e (omega arith) there in
-    rw c.target-n.ensures (inside, omega (arith, e.long), count_fits e (omega arith) there)
+pub overflow_add-index-in-loop-n : goal.overflow_add-index-in-loop-n
+overflow_add-index-in-loop-n c =
+    let (arcs, so_far) = c.loop-n.invariant in
+    omega (arith, arc_fits so_far (goes arcs c.in-Some.ensures.steps))
 
-pub overflow_add-index : goal.overflow_add-index
-overflow_add-index c = omega (arith, counts c)
-
-pub offset_bounds-index-n : goal.offset_bounds-index-n
-offset_bounds-index-n c = omega (arith, counts c)
-
-pub bounds-index-n : goal.bounds-index-n
-bounds-index-n c = (counts (goal.at.bounds-index-n c).After-target-n).1
-
-pub overflow_add-index-in-loop-x : goal.overflow_add-index-in-loop-x
-overflow_add-index-in-loop-x c = omega (arith, counts (goal.at.overflow_add-index-in-loop-x c).After-target-n)
-
-pub bounds-index-n-in-loop-x : goal.bounds-index-n-in-loop-x
-bounds-index-n-in-loop-x c = (counts (goal.at.bounds-index-n-in-loop-x c).After-target-n).1
-
-pub next_arc-x-requires-in-loop-x : goal.next_arc-x-requires-in-loop-x
-next_arc-x-requires-in-loop-x c = (c.loop-x.invariant.2.used.inside, omega arith)
-
-pub loop-x-preserved : goal.loop-x-preserved
-loop-x-preserved c =
-    let next = c.next_arc-x-in-loop-x.ensures in
-    let (low, stops, e) = c.loop-x.invariant in
-    (next.to, next.stops, entering-past next (rw c.target-n.ensures (entering-more e (omega arith) (stops (omega arith)))))
-
-pub shape_of-index : goal.shape_of-index
-shape_of-index c = omega (arith, c.loop-x.invariant.2.long, c.requires.long)
+pub loop-n-preserved : goal.loop-n-preserved
+loop-n-preserved c =
+    let (arcs, so_far) = c.loop-n.invariant in
+    let one = goes arcs c.in-Some.ensures.steps in
+    (one.still, entering_arc so_far one)
 
 pub returns : goal.returns
-returns c = let all : c.loop-x.x ≡ letters = omega arith in rw all at c.loop-x.invariant.2
+returns c =
+    let (arcs, so_far) = c.loop-n.invariant in
+    entering-past (gone arcs c.in-None.ensures.steps) so_far

@@ -2,10 +2,8 @@ use Prim.Native.Nat.{ℕ, ◌+◌}
 use mathlib.Core.Path.{◌≡◌}
 use mathlib.Core.Bool.{Bool, ◌&&◌, and-true, and_assoc}
 use native.Mathlib.Numerals.{add-one}
-use native.Mathlib.Omega.{arith}
 use lib.Dec.{eqb}
 use lib.ListN.{get_or}
-use Rattle.letters.specs.Letters.{letters}
 use Rattle.letters.specs.Below.{all_below}
 use Rattle.rows.specs.Table.{mark, target}
 use Rattle.index.proofs.finds.has.Goals as goal
@@ -17,7 +15,7 @@ same_more first test x e = rw (e, add-one) (and_assoc first (all_below x test) (
 
 pub loop-x-init : goal.loop-x-init
 unfolding all_below
-loop-x-init c = (omega arith, rw (c.mark.ensures, and-true))
+loop-x-init c = rw (c.mark.ensures, and-true)
 
 pub loop-x-preserved : goal.loop-x-preserved
 loop-x-preserved c =
@@ -25,10 +23,4 @@ loop-x-preserved c =
     let args = c.args in
     let first = eqb (mark args.t.now args.r) args.wanted in
     let test : ℕ → Bool = λ y. eqb (target args.t.now args.r y) (get_or args.targets.now y 0) in
-    (omega arith, rw c.target.ensures (same_more first test l.x l.invariant.1))
-
-pub returns : goal.returns
-returns c =
-    let (low, same) = c.loop-x.invariant in
-    let all : c.loop-x.x ≡ letters = omega arith in
-    rw all at same
+    rw c.target.ensures (same_more first test l.x l.invariant)

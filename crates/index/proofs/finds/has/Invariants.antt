@@ -1,18 +1,11 @@
--- `has` meets its promise. The loop's invariant: `same` says whether the row has the wanted mark, and the wanted targets at the letters below `x`. The
--- measure is the letters that are left. Assumes nothing.
-use Prim.Native.Nat.{◌-◌, ◌≤◌}
+-- `has` meets its promise. The loop's invariant: `same` says whether the row has the wanted mark, and the wanted targets at the letters below `x`. Assumes nothing.
 use mathlib.Core.Path.{◌≡◌}
 use mathlib.Core.Bool.{◌&&◌}
 use lib.Dec.{eqb}
 use lib.ListN.{get_or}
-use Rattle.letters.specs.Letters.{letters}
 use Rattle.letters.specs.Below.{all_below}
 use Rattle.rows.specs.Table.{mark, target}
 use Rattle.index.proofs.finds.has.Given as goal
 
 abbrev pub invariant-loop-x : goal.invariant-loop-x
-invariant-loop-x l =
-    (l.x ≤ letters) × (l.same ≡ (eqb (mark l.t l.r) l.wanted && all_below l.x (λ y. eqb (target l.t l.r y) (get_or l.targets y 0))))
-
-abbrev pub decreases-loop-x : goal.decreases-loop-x
-decreases-loop-x l = letters - l.x
+invariant-loop-x l = l.same ≡ (eqb (mark l.t l.r) l.wanted && all_below l.x (λ y. eqb (target l.t l.r y) (get_or l.targets y 0)))

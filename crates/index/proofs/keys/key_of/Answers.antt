@@ -3,7 +3,6 @@ use mathlib.Core.Path.{◌≡◌, ◌∙◌}
 use native.Mathlib.Numerals.{add-one}
 use native.Mathlib.Omega.{arith}
 use lib.ListN.{get_or}
-use Rattle.letters.specs.Letters.{letters}
 use Rattle.rows.proofs.Skipping.{past}
 use Rattle.index.specs.Buckets.{mix}
 use Rattle.index.proofs.Buckets.{mix-none, mix-more, mix-zero}
@@ -33,9 +32,3 @@ loop-x-preserved c =
           (λ x none e. e ∙ rw (mix-zero c.args.mark targets x none)) (l.x + 1) _ skipped.before.from skipped.before.zeros
           (rw add-one (e ∙ rw l.invariant.2 (mix-more c.args.mark targets l.x))),
     )
-
-pub returns : goal.returns
-returns c =
-    let l = c.loop-x in
-    let all : l.x ≡ letters = omega arith in
-    c.key_from.ensures ∙ rw (rw all at l.invariant.2)
