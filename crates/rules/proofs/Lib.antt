@@ -2,3 +2,4 @@
 pub mod Heights
 pub mod Writes
 pub mod Counting
+pub mod Ranges

@@ -12,30 +12,24 @@ ghost use Rattle.index.specs.Index.{Keyed};
 ghost use Rattle.rules.specs.Counted.{KeyedIf, Tested};
 
 use index::{keep_key, key_from, mixed, mixed_mark};
-use letters::{LETTERS, LONGEST};
-use rows::{height, higher, in_use, mark, next_arc, number39, row_count, target};
+use letters::LONGEST;
+use rows::{arcs_of, height, in_use, mark, number39, row_count};
 
-// What a target demands of the height of its row, or that it is neither 0 nor a row in use.
-#[derive(Clone, Copy)]
-pub enum Demand {
-    Height(usize),
-    Broken,
-}
-
-// What the target demands; an arc to a row in use is counted.
-fn follow(t: &[u16], n: usize, arcs: &mut [u16]) -> Demand
+// What the target demands of the height of its row, or None if it is neither 0 nor a row in use; an
+// arc to a row in use is counted.
+fn follow(t: &[u16], n: usize, arcs: &mut [u16]) -> Option<usize>
     requires { (row_count t.now ≤ length arcs.old) × (0 < n → get_or arcs.old n 0 < most_rows * letters) }
     ensures asked { result ≡ demands t.now n }
     ensures counted { Adds (λ s. flag (in_use t.now n && eqb n s)) arcs.old arcs.new }
 {
     if n == 0 {
-        return Demand::Height(0);
+        return Some(0);
     }
     if !in_use(t, n) {
-        return Demand::Broken;
+        return None;
     }
     arcs[n] += 1;
-    Demand::Height(height(t, n) as usize + 1)
+    Some(height(t, n) as usize + 1)
 }
 
 // One row in use.
@@ -46,15 +40,12 @@ fn arcs_ok(t: &[u16], r: usize, arcs: &mut [u16], index: &mut [u16]) -> bool
 {
     let mut top = 0;
     let mut m = mixed_mark(mark(t, r));
-    let mut x = next_arc(t, r, 0);
-    while x < LETTERS {
-        let n = target(t, r, x);
-        let Demand::Height(h) = follow(t, n as usize, arcs) else {
+    for (x, n) in arcs_of(t, r) {
+        let Some(h) = follow(t, n, arcs) else {
             return false;
         };
-        top = higher(top, h);
-        m = mixed(m, x, n);
-        x = next_arc(t, r, x + 1);
+        top = top.max(h);
+        m = mixed(m, x, n as u16);
     }
     if height(t, r) as usize != top {
         return false;
@@ -83,13 +74,10 @@ pub fn rule3(t: &[u16], arcs: &mut [u16], index: &mut [u16]) -> bool
     ensures tested { Tested (rule3 t.now) (λ s. arcs_to t.now s) arcs.old arcs.new result }
     ensures keyed { KeyedIf result t.now (row_count t.now) index.new }
 {
-    let k = row_count(t);
-    let mut r = 1;
-    while r < k {
+    for r in 1..row_count(t) {
         if !row_ok(t, r, arcs, index) {
             return false;
         }
-        r += 1;
     }
     true
 }

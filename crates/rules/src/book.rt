@@ -13,6 +13,7 @@ use index::{INDEX, index_rows, keep_arcs};
 use rows::{MOST_ROWS, length_ok, room, row_count, used_rows};
 
 // Rule 7: "At most room rows are in use."
+#[tactic(auto, unfolding(rows::specs::Rules::rule7))]
 fn rule7(t: &[u16]) -> bool
     ensures { result ≡ rule7 t.now }
 {
@@ -20,6 +21,7 @@ fn rule7(t: &[u16]) -> bool
 }
 
 // Builds the index of a sound book on the way, in an array of zeros.
+#[tactic(auto, unfolding(rows::specs::Rules::sound))]
 pub fn sound_indexed(t: &[u16], index: &mut [u16]) -> bool
     requires { index.old ≡ replicate index_length 0 }
     ensures says { result ≡ sound t.now }

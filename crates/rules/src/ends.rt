@@ -23,13 +23,5 @@ pub fn rule4(t: &[u16]) -> bool
     requires { rule3 t.now ≡ true }
     ensures { result ≡ rule4 t.now }
 {
-    let k = row_count(t);
-    let mut r = 1;
-    while r < k {
-        if !end_ok(t, r) {
-            return false;
-        }
-        r += 1;
-    }
-    true
+    (1..row_count(t)).all(|r| end_ok(t, r))
 }

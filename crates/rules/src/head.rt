@@ -22,14 +22,7 @@ fn starts_ok(t: &[u16]) -> bool
     requires { width ≤ length t.now }
     ensures { result ≡ starts_ok t.now }
 {
-    let mut m = 0;
-    while m < MISSIONS {
-        if !start_ok(t, start(t, m) as usize) {
-            return false;
-        }
-        m += 1;
-    }
-    true
+    (0..MISSIONS).all(|m| start_ok(t, start(t, m) as usize))
 }
 
 // Are the numbers of the head behind the starts 0?
@@ -40,6 +33,7 @@ fn rest_ok(t: &[u16]) -> bool
     past_zeros(t, MISSIONS, WIDTH) == WIDTH
 }
 
+#[tactic(auto, unfolding(rows::specs::Rules::rule1))]
 pub fn rule1(t: &[u16]) -> bool
     requires { width ≤ length t.now }
     ensures { result ≡ rule1 t.now }

@@ -30,13 +30,5 @@ fn mark_ok(t: &[u16], r: usize) -> bool
 pub fn rule2(t: &[u16]) -> bool
     ensures { result ≡ rule2 t.now }
 {
-    let k = row_count(t);
-    let mut r = 1;
-    while r < k {
-        if !mark_ok(t, r) {
-            return false;
-        }
-        r += 1;
-    }
-    true
+    (1..row_count(t)).all(|r| mark_ok(t, r))
 }

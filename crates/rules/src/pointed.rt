@@ -11,14 +11,7 @@ fn is_start(t: &[u16], r: usize) -> bool
     requires { width ≤ length t.now }
     ensures { result ≡ is_start t.now r }
 {
-    let mut m = 0;
-    while m < MISSIONS {
-        if start(t, m) as usize == r {
-            return true;
-        }
-        m += 1;
-    }
-    false
+    (0..MISSIONS).any(|m| start(t, m) as usize == r)
 }
 
 // One row: a free one passes.
@@ -39,13 +32,5 @@ pub fn rule5(t: &[u16], arcs: &[u16]) -> bool
     requires { ArcsCounted t.now arcs.now }
     ensures { result ≡ rule5 t.now }
 {
-    let k = row_count(t);
-    let mut r = 1;
-    while r < k {
-        if !is_pointed(t, r, arcs) {
-            return false;
-        }
-        r += 1;
-    }
-    true
+    (1..row_count(t)).all(|r| is_pointed(t, r, arcs))
 }

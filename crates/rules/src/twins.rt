@@ -21,13 +21,5 @@ pub fn rule6(t: &[u16], index: &[u16]) -> bool
     requires { Indexed t.now index.now }
     ensures { result ≡ rule6 t.now }
 {
-    let k = row_count(t);
-    let mut s = 1;
-    while s < k {
-        if !no_twin(t, s, index) {
-            return false;
-        }
-        s += 1;
-    }
-    true
+    (1..row_count(t)).all(|s| no_twin(t, s, index))
 }

@@ -1,6 +1,5 @@
--- `rule3` meets its promise. The loop's invariant: the rows below `r` pass, the array counts their arcs, and the index has their keys. The measure is
--- the rows that are left. Assumes nothing.
-use Prim.Native.Nat.{◌-◌, ◌≤◌, max}
+-- `rule3` meets its promise. The loop's invariant: the rows below `r` pass, the array counts their arcs, and the index has their keys. Assumes nothing.
+use Prim.Native.Nat.{◌≤◌, max}
 use mathlib.Core.Path.{◌≡◌}
 use mathlib.Core.Bool.{true}
 use Rattle.letters.specs.Below.{all_below}
@@ -11,7 +10,4 @@ use Rattle.rules.proofs.arcs.rule3.Given as goal
 
 abbrev pub invariant-loop-r : goal.invariant-loop-r
 invariant-loop-r l =
-    (l.r ≤ max l.k 1) × (all_below l.r (λ s. if_used l.t s (arcs_ok l.t s)) ≡ true) × Adds (λ s. arcs_below l.t l.r s) l.initial.arcs l.arcs × Keyed l.t l.r l.index
-
-abbrev pub decreases-loop-r : goal.decreases-loop-r
-decreases-loop-r l = l.k - l.r
+    (l.r ≤ max l.r-end 1) × (all_below l.r (λ s. if_used l.t s (arcs_ok l.t s)) ≡ true) × Adds (λ s. arcs_below l.t l.r s) l.initial.arcs l.arcs × Keyed l.t l.r l.index

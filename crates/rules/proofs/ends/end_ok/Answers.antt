@@ -1,30 +1,14 @@
 -- `end_ok` meets its promise: each branch has settled one of the tests, and the height says whether there is a target. Assumes nothing.
 use mathlib.Core.Path.{◌≡◌, sym, ◌∙◌}
 use mathlib.Core.Bool.{true}
-use borrow.Author.Tests.{eq-eqb, ne_eqb}
+use borrow.Author.Tests.{eq-eqb}
 use Rattle.rows.specs.Table.{in_use, mark}
-use Rattle.rows.proofs.Facts.{in-use-used}
 use Rattle.rules.proofs.Heights.{has-target}
 use Rattle.rules.proofs.ends.end_ok.Goals as goal
 use Rattle.rules.proofs.ends.end_ok.Goals.{Else-not-in_use}
 
 used : (c : Else-not-in_use) → in_use c.args.t.now c.args.r ≡ true
 used c = sym c.in_use.ensures ∙ c.if-not-in_use.false
-
-pub returns-then-not-in_use : goal.returns-then-not-in_use
-returns-then-not-in_use c = rw (sym c.in_use.ensures, c.if-not-in_use.true)
-
-pub mark-requires : goal.mark-requires
-mark-requires c = (in-use-used c.args.t.now c.args.r (used c)).inside
-
-pub returns-then-mark-ne1 : goal.returns-then-mark-ne1
-returns-then-mark-ne1 c =
-    let t = c.args.t.now in
-    let r = c.args.r in
-    rw (used (goal.at.returns-then-mark-ne1 c).Else-not-in_use, ne_eqb (mark t r) 1 (λ e. c.if-mark-ne1.true (c.mark.ensures ∙ e)))
-
-pub height-requires : goal.height-requires
-height-requires c = (in-use-used c.args.t.now c.args.r (used (goal.at.height-requires c).Else-not-in_use)).inside
 
 pub returns : goal.returns
 returns c =

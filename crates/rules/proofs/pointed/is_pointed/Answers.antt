@@ -33,15 +33,6 @@ used c = sym c.in_use.ensures ∙ c.if-not-in_use.false
 inside : (c : Else-not-in_use) → Used c.args.t.now c.args.r
 inside c = in-use-used _ _ (used c)
 
-pub returns-then-not-in_use : goal.returns-then-not-in_use
-returns-then-not-in_use c = rw (sym c.in_use.ensures, c.if-not-in_use.true)
-
-pub offset_bounds-arcs-r : goal.offset_bounds-arcs-r
-offset_bounds-arcs-r c = omega (arith, inside c)
-
-pub bounds-arcs-r : goal.bounds-arcs-r
-bounds-arcs-r c = omega (arith, inside (goal.at.bounds-arcs-r c).Else-not-in_use)
-
 pub returns-then-arcs-r-ne0 : goal.returns-then-arcs-r-ne0
 returns-then-arcs-r-ne0 c =
     rw (used (goal.at.returns-then-arcs-r-ne0 c).Else-not-in_use, said-some c.requires (inside (goal.at.returns-then-arcs-r-ne0 c).Else-not-in_use) (λ e. omega arith), or-true)
