@@ -5,7 +5,7 @@ use Prim.Native.Nat.{ℕ, zero, suc, ◌+◌, ◌-◌, ◌*◌, ◌≤◌, ◌<�
 use native.Mathlib.Numerals.{add-one}
 use native.Mathlib.Omega.{arith}
 use native.Mathlib.Decide.{dec_lt, ℕ_discrete}
-use mathlib.Core.Path.{◌≡◌, refl, sym, ◌∙◌}
+use mathlib.Core.Path.{◌≡◌, refl, sym, subst}
 use mathlib.Core.Logic.{◌⊎◌, inl, inr}
 use mathlib.Core.Bool.{Bool, true, false, cond}
 use mathlib.Core.List.{List, [], ◌∷◌}
@@ -24,6 +24,7 @@ use Rattle.model.specs.Lists.{missions}
 use Rattle.rows.specs.Table.{Table, row_count, most_rows, is_row, start, starts, height, target, in_use}
 use Rattle.rows.specs.Tidy.{Used, Named, Arc, Tidy}
 use Rattle.rows.specs.Skips.{NextArc}
+use Rattle.rows.specs.Arcs.{Goes}
 use Rattle.rows.specs.Reach.{reached}
 use Rattle.rows.proofs.Facts.{row_inside, in-use-used, used-in-use}
 use Rattle.rows.proofs.Reach.{reached-root, reached-arc, reached-all}
@@ -32,7 +33,7 @@ use Rattle.rows.proofs.Skipping.{past}
 use Rattle.index.specs.Arcs.{arcs_from, arcs_of, arcs_to, Arcs, Adds}
 use Rattle.index.proofs.Arcs.{adds_none, adds-both, arcs-more, arcs-zero, arc-counted, counted-arc, below-most, row-counted}
 use Rattle.reaching.specs.Marks.{Marks}
-use Rattle.reaching.specs.Leads.{starts_at, led_arcs, leads_to, Owes, Releases, ReachedWith}
+use Rattle.reaching.specs.Leads.{starts_at, led_arcs, leads_to, Owes, OwesOne, Releases, ReachedWith}
 
 module _ (t : Table) where
   -- the starts, one by one
@@ -154,10 +155,14 @@ module _ {t : Table} {n : ℕ} {leads : List ℕ} (debt : ℕ → ℕ) (used : U
   paid-none none =
       record { long = less-long; paid = λ s h k. omega (arith, o.owes s h k, less_one s, lost-leads none s) }
 
+-- what is still to be taken off besides the arc of letter x: the arcs of the letters behind it, and whatever else
+abbrev rest : Table → ℕ → ℕ → (ℕ → ℕ) → ℕ → ℕ
+rest t n x debt s = debt s + (arcs_from t n letters s - arcs_from t n (suc x) s)
+
 module _ {t : Table} {n x : ℕ} {leads : List ℕ} {debt : ℕ → ℕ} where
   -- the arc of the next letter is to be taken off
-  pub paid-owes : Paid t n x leads debt → x < letters
-      → Owes t leads (λ s. debt s + (arcs_from t n letters s - arcs_from t n (suc x) s) + flag (eqb (target t n x) s))
+  paid-owes : Paid t n x leads debt → x < letters
+      → Owes t leads (λ s. rest t n x debt s + flag (eqb (target t n x) s))
   paid-owes p h =
       record {
         long = p.long;
@@ -170,14 +175,14 @@ module _ {t : Table} {n x : ℕ} {leads : List ℕ} {debt : ℕ → ℕ} where
             );
       }
 
-  owes-paid : x < letters → Owes t leads (λ s. debt s + (arcs_from t n letters s - arcs_from t n (suc x) s)) → Paid t n (suc x) leads debt
+  owes-paid : x < letters → Owes t leads (λ s. rest t n x debt s) → Paid t n (suc x) leads debt
   owes-paid h o =
       record {
         long = o.long;
         paid = λ s some inside. omega (arith, o.owes s some inside, total-more (λ y. flag (eqb (target t n y) s)) (suc x) letters h);
       }
 
-  paid-past : {e : ℕ} → NextArc t n x e → Paid t n x leads debt → Paid t n e leads debt
+  pub paid-past : {e : ℕ} → NextArc t n x e → Paid t n x leads debt → Paid t n e leads debt
   paid-past {e} next = past (λ y. target t n y) (λ y. Paid t n y leads debt) step x e next.from next.none
     where
       step : (y : ℕ) → target t n y ≡ 0 → Paid t n y leads debt → Paid t n (suc y) leads debt
@@ -187,25 +192,33 @@ pub paid-all : {t : Table} {n : ℕ} {leads : List ℕ} {debt : ℕ → ℕ} →
 paid-all {t} {n} {leads} {debt} p = record { long = p.long; owes = λ s some inside. omega (arith, p.paid s some inside) }
 
 -- a row that leads nowhere any more is released up to letter x: whatever else is to be taken off still is
-pub record Paying (t : Table) (n : ℕ) (before now : List ℕ) (x : ℕ) : Type 0 where
-  pub to : x ≤ letters
-  pub stops : x < letters → 0 < target t n x
-  pub long : length now ≡ length before
-  pub paying : (debt : ℕ → ℕ) → Paid t n 0 before debt → Paid t n x now debt
+abbrev pub Paying : Table → ℕ → List ℕ → List ℕ → ℕ → Type 0
+Paying t n before now x = (debt : ℕ → ℕ) → Paid t n 0 before debt → Paid t n x now debt
 
-pub paying-none : {t : Table} {n x : ℕ} {p : List ℕ} → NextArc t n 0 x → Paying t n p p x
-paying-none next = record { to = next.to; stops = next.stops; long = refl; paying = λ debt paid. paid-past next paid }
+pub paying-none : {t : Table} {n x : ℕ} {p : List ℕ} → x ≡ 0 → Paying t n p p x
+paying-none none = λ debt paid. rw none paid
 
-pub paying-more : {t : Table} {n x e : ℕ} {before now later : List ℕ} → Paying t n before now x → x < letters
-    → Releases t (target t n x) now later → length later ≡ length now → NextArc t n (suc x) e → Paying t n before later e
-paying-more {t} {n} {x} p h releases long next =
-    record {
-      to = next.to;
-      stops = next.stops;
-      long = long ∙ p.long;
-      paying = λ debt paid.
-          paid-past next (owes-paid h (releases (λ s. debt s + (arcs_from t n letters s - arcs_from t n (suc x) s)) (paid-owes (p.paying debt paid) h)));
-    }
+-- one arc of row n: the letters before it have no target
+module _ {t : Table} {n : ℕ} {s e : _} {x m : ℕ} (next : Goes t n s e x m) where
+  arc-of : Used t n → Arc t n x
+  arc-of used = record { used = used; letter = next.inside; there = next.next.stops next.inside }
+
+  pub end-used : Tidy t → Used t n → Used t m
+  end-used tidy used = rw next.to (tidy.targets n x (arc-of used))
+
+  pub end-lower : Tidy t → Used t n → height t m < height t n
+  end-lower tidy used = rw next.to (tidy.lower n x (arc-of used))
+
+  arc-owed : {leads : List ℕ} {debt : ℕ → ℕ} → Paid t n s.from leads debt → Owes t leads (λ i. rest t n x debt i + flag (eqb m i))
+  arc-owed paid = rw next.to (paid-owes (paid-past next.next paid) next.inside)
+
+  pub arc-owes : {leads : List ℕ} {debt : ℕ → ℕ} → Paid t n s.from leads debt → OwesOne t leads m
+  arc-owes {debt = debt} paid = ((λ i. rest t n x debt i), arc-owed paid)
+
+  pub paying-more : {before now later : List ℕ} → Paying t n before now s.from → Releases t m now later → Paying t n before later e.from
+  paying-more {later = later} paying releases = λ debt paid.
+      subst (λ (y : ℕ). Paid t n y later debt) (sym next.from)
+      (owes-paid next.inside (releases (λ i. rest t n x debt i) (arc-owed (paying debt paid))))
 
 module _ {t : Table} {leads : List ℕ} (tidy : Tidy t) (o : Owes t leads (λ s. 0)) where
   led-start : (r : ℕ) → In r (starts t) → Used t r → 0 < get_or leads r 0

@@ -1,25 +1,27 @@
 -- Arrays that mark rows. Where rows are written to one by one, those are marked that were written to, and those that were before; what would
 -- be written to number 0, which is no row, may be left out. So an array that was zeros marks the rows that pass the test of the writes.
 -- Assumes nothing.
-use Prim.Native.Nat.{ℕ, suc, ◌+◌, ◌≤◌, ◌<◌, max}
+use Prim.Native.Nat.{ℕ, zero, suc, ◌+◌, ◌-◌, ◌≤◌, ◌<◌}
 use native.Mathlib.Numerals.{add-one}
 use native.Mathlib.Omega.{arith}
 use native.Mathlib.Decide.{ℕ_discrete}
-use mathlib.Core.Path.{◌≡◌, refl, sym, ◌∙◌}
+use mathlib.Core.Path.{◌≡◌, refl, sym, subst, ◌∙◌}
 use mathlib.Core.Bool.{Bool, true, false, cond, ◌&&◌, ◌||◌, false≢true}
 use mathlib.Core.Logic.{inl, inr}
-use mathlib.Core.List.{List}
+use mathlib.Core.List.{List, ◌∷◌}
 use borrow.Author.Tests.{eq-eqb, ne_eqb}
 use lib.Dec.{eqb, ltb}
 use lib.ListN.{length, get_or, set, replicate, length-set, length-replicate}
 use lib.Seq.{get_or-set_same, get_or-set_other}
+use Rattle.std.specs.List.{filter, range_with_len}
 use Rattle.letters.specs.LetterSet.{flag, count_of}
-use Rattle.letters.proofs.LetterSet.{flag-le}
 use Rattle.sets.specs.Below.{some_below}
 use Rattle.sets.proofs.Membership.{either}
 use Rattle.rows.specs.Table.{Table, row_count, is_row, target}
 use Rattle.rows.specs.Tidy.{Used}
 use Rattle.rows.specs.Skips.{NextArc}
+use Rattle.rows.specs.Arcs.{Goes}
+use Rattle.rows.specs.declared.arcs.Arcs.{Arcs}
 use Rattle.rows.proofs.Zeros.{zero-cell}
 use Rattle.rows.proofs.Facts.{row_inside, inside-row}
 use Rattle.rows.proofs.Skipping.{past}
@@ -71,14 +73,23 @@ module _ (given : ℕ → ℕ) where
   -- number 0 stands for no row
   given-zero : {p q : List ℕ} (x : ℕ) → given x ≡ 0 → MarksMore (λ s. given_below x s) p q → MarksMore (λ s. given_below (suc x) s) p q
   unfolding some_below
-  given-zero x zero before =
-      points-at-both before (points-nowhere (λ s. refl)) (λ s some. rw (zero, ne_eqb 0 s (λ e. omega arith)))
+  given-zero x none before =
+      points-at-both before (points-nowhere (λ s. refl)) (λ s some. rw (none, ne_eqb 0 s (λ e. omega arith)))
 
--- letters without a target give none
-pub targets-past : {t : Table} {r x e : ℕ} {p q : List ℕ} → NextArc t r x e
-    → MarksMore (λ s. given_below (λ y. target t r y) x s) p q → MarksMore (λ s. given_below (λ y. target t r y) e s) p q
-targets-past {t} {r} {x} {e} {p} {q} next =
-    past (λ y. target t r y) (λ n. MarksMore (λ s. given_below (λ y. target t r y) n s) p q) (given-zero (λ y. target t r y)) x e next.from next.none
+module _ {t : Table} {r : ℕ} where
+  -- letters without a target give none
+  pub targets-past : {x e : ℕ} {p q : List ℕ} → NextArc t r x e
+      → MarksMore (λ s. given_below (λ y. target t r y) x s) p q → MarksMore (λ s. given_below (λ y. target t r y) e s) p q
+  targets-past {x} {e} {p} {q} next =
+      past (λ y. target t r y) (λ n. MarksMore (λ s. given_below (λ y. target t r y) n s) p q) (given-zero (λ y. target t r y)) x e next.from next.none
+
+  -- one arc: the letters before it are passed, and its target is written to
+  pub targets-more : {s e : Arcs} {x n : ℕ} {p q : List ℕ} → Goes t r s e x n → n < length p
+      → MarksMore (λ i. given_below (λ y. target t r y) s.from i) p q → MarksMore (λ i. given_below (λ y. target t r y) e.from i) p (set q n 1)
+  targets-more {x = x} {n} {p} {q} arc inside before =
+      let next : x + 1 ≡ _ = add-one x ∙ sym arc.from in
+      subst (λ (y : ℕ). MarksMore (λ i. given_below (λ y. target t r y) y i) p (set q n 1)) next
+      (given-more (λ y. target t r y) x n (targets-past arc.next before) arc.to inside)
 
 module _ {t : Table} {test : ℕ → Bool} {keep : List ℕ} (m : Marks t test keep) where
   pub marks-same : (other : ℕ → Bool) → ((r : ℕ) → is_row t r ≡ true → test r ≡ other r) → Marks t other keep
@@ -111,37 +122,35 @@ roots-none m = record { long = m.long; used = λ r row e. absurd (false≢true (
 pub zeros-mark-none : {t : Table} {n : ℕ} → row_count t ≤ n → Marks t (λ r. false) (replicate n 0)
 zeros-mark-none {n} inside = record { long = rw (length-replicate {A = ℕ}) inside; marks = λ r row. rw (zero-cell n r) }
 
--- n of the rows below r are marked
-pub record Counted (t : Table) (keep : List ℕ) (r n : ℕ) : Type 0 where
-  pub some : 0 < r
-  pub near : r ≤ max (row_count t) 1
-  pub few : n ≤ r
-  pub count : n ≡ count_of r (λ s. is_row t s && marked keep s)
+-- one item before a filtered list is one more if it passes
+length-one : (b : Bool) (x : ℕ) (l : List ℕ) → length (cond b (x ∷ l) l) ≡ flag b + length l
+length-one true x l = omega arith
+length-one false x l = omega arith
 
-module _ {t : Table} {keep : List ℕ} where
-  -- number 0 is no row
-  pub counted_none : Counted t keep 1 0
-  unfolding count_of
-  counted_none = record { some = omega arith; near = omega arith; few = omega arith; count = refl }
+-- the items of a range that pass a test are as many as the rule counts from there on, where the two tests agree
+count-range : (asked test : ℕ → Bool) (a n k : ℕ) → a + n ≡ k → ((x : ℕ) → a ≤ x → x < k → asked x ≡ test x)
+    → count_of a test + length (filter asked (range_with_len a n)) ≡ count_of k test
+unfolding count_of
+count-range asked test a zero k e same =
+    let all : a ≡ k = omega arith in
+    rw all (omega arith)
+count-range asked test a (suc n) k e same =
+    rw (add-one, same a (omega arith) (omega arith))
+    (omega (
+      arith,
+      length-one (test a) a (filter asked (range_with_len (suc a) n)),
+      count-range asked test (suc a) n k (omega arith) (λ x low below. same x (omega arith) below),
+    ))
 
-  pub counted-more : {r n : ℕ} → Counted t keep r n → r < row_count t → Counted t keep (r + 1) (n + flag (marked keep r))
-  unfolding count_of
-  counted-more {r} c inside =
-      record {
-        some = omega arith;
-        near = omega arith;
-        few = omega (arith, flag-le (marked keep r));
-        count = rw (add-one, inside-row t r c.some inside) (omega arith);
-      }
-
-  -- behind the last row; a table without rows has none below row 1 either
-  pub counted-all : {r n : ℕ} → Counted t keep r n → row_count t ≤ r → n ≡ count_of (row_count t) (λ s. is_row t s && marked keep s)
-  unfolding count_of
-  counted-all {r} c past =
-      elim (ℕ_discrete r (row_count t)) [
-        | yes e ↦ rw e at c.count
-        | no e ↦
-            let none : row_count t ≡ 0 = omega arith in
-            let one : r ≡ 1 = omega arith in
-            rw none (rw one at c.count)
-      ]
+-- row 0 is no state row, so it is none of those counted
+pub counted_rows : (t : Table) (keep : List ℕ) (k n : ℕ) → k ≡ row_count t → k - 1 ≡ n
+    → length (filter (λ r. marked keep r) (range_with_len 1 n)) ≡ count_of k (λ r. is_row t r && marked keep r)
+unfolding count_of
+counted_rows t keep zero n rows e =
+    let none : n ≡ 0 = omega arith in
+    rw none
+counted_rows t keep (suc k) n rows e =
+    omega (
+      arith,
+      count-range (λ r. marked keep r) (λ r. is_row t r && marked keep r) 1 n (suc k) (omega arith) (λ x some below. rw (inside-row t x some (omega arith))),
+    )

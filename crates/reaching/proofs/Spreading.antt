@@ -2,7 +2,7 @@
 -- row in use misses its turn. Then it is passed by, or its targets are marked. These are lower, so their turns come later: a row whose turn came
 -- before is marked as it was, and its targets stay marked. At the end the marked rows hold the roots and the targets of their rows, so they are
 -- the rows reached. Assumes nothing.
-use Prim.Native.Nat.{ℕ, suc, ◌-◌, ◌≤◌, ◌<◌}
+use Prim.Native.Nat.{ℕ, suc, ◌≤◌, ◌<◌}
 use native.Mathlib.Omega.{arith}
 use native.Mathlib.Decide.{ℕ_discrete}
 use mathlib.Core.Path.{◌≡◌, refl, sym, ◌∙◌, ap}
@@ -55,10 +55,6 @@ module _ {t : Table} (tidy : Tidy t) {r : ℕ} {p : List ℕ} (u : Used t r) (ro
   turn-cases : (s : ℕ) → Used t s → turn (height t r) r ≤ turn (height t s) s → (turn (height t r) (suc r) ≤ turn (height t s) s) ⊎ (s ≡ r)
   turn-cases s v early =
       elim (ℕ_discrete (turn (height t s) s) (turn (height t r) r)) [ yes e ↦ inr (omega arith) | no e ↦ inl (omega arith) ]
-
-  pub row-skipped : (marked p r ≡ true → ⊥) → Spreads t (turn (height t r) (suc r)) (turn (height t r) r) p p
-  row-skipped other =
-      spreads-same roots (λ s v m early. elim (turn-cases s v early) [ inl e ↦ e | inr same ↦ absurd (other (rw same at m)) ])
 
   module _ {q : List ℕ} (m : marked p r ≡ true) (d : MarksMore (λ s. points_at t r s) p q) where
     marked-now : (s : ℕ) → is_row t s ≡ true → marked q s ≡ (points_at t r s || marked p s)
@@ -134,10 +130,6 @@ module _ {t : Table} (tidy : Tidy t) (h : ℕ) {p : List ℕ} (roots : Roots t p
 
   pub height-done : Spreads t (turn h 1) (turn h 0) p p
   height-done = spreads-same roots (λ s u m early. omega arith)
-
--- behind the rows of a height come those of the next lower one
-pub height-next : {t : Table} {p q : List ℕ} (from h : ℕ) → 0 < h → Spreads t from (turn h 0) p q → Spreads t from (turn (h - 1) most_rows) p q
-height-next from h some d = let same : turn h 0 ≡ turn (h - 1) most_rows = omega arith in rw same at d
 
 -- the roots are the rows that are marked
 module _ (t : Table) (p : List ℕ) where

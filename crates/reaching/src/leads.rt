@@ -11,8 +11,7 @@ ghost use Rattle.index.specs.Arcs.{Arcs, Adds};
 ghost use Rattle.reaching.specs.Marks.{Marks};
 ghost use Rattle.reaching.specs.Leads.{starts_at, OwesOne, Releases, ReachedWith};
 
-use letters::LETTERS;
-use rows::{MISSIONS, next_arc, start, target};
+use rows::{MISSIONS, arcs_of, start};
 
 // One more leads to row n. Number 0 stands for no row.
 fn lead(leads: &mut [u16], n: usize)
@@ -30,10 +29,8 @@ fn lead_starts(t: &[u16], leads: &mut [u16])
     requires { Tidy t.now × Arcs t.now leads.old }
     ensures { Adds (λ s. starts_at t.now missions s) leads.old leads.new }
 {
-    let mut m = 0;
-    while m < MISSIONS {
+    for m in 0..MISSIONS {
         lead(leads, start(t, m) as usize);
-        m += 1;
     }
 }
 
@@ -47,10 +44,8 @@ fn release(t: &[u16], leads: &mut [u16], n: usize)
     if leads[n] != 0 {
         return;
     }
-    let mut x = next_arc(t, n, 0);
-    while x < LETTERS {
-        release(t, leads, target(t, n, x) as usize);
-        x = next_arc(t, n, x + 1);
+    for (_, s) in arcs_of(t, n) {
+        release(t, leads, s);
     }
 }
 

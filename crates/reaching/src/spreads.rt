@@ -22,7 +22,7 @@ fn spread_row(t: &[u16], r: usize, keep: &mut [u16])
     mark_targets(t, r, keep);
 }
 
-// Marks the targets of the marked rows of one height.
+// Marks the targets of the marked rows of one height. A while: each row is found from the one after it, not counted.
 fn spread_height(t: &[u16], h: usize, order: &[u16], keep: &mut [u16])
     requires { Tidy t.now × Roots t.now keep.old × (h ≤ longest) × Ordered t.now order.now }
     ensures { Spreads t.now (turn h most_rows) (turn h 0) keep.old keep.new }
@@ -39,10 +39,8 @@ fn spread_heights(t: &[u16], order: &[u16], keep: &mut [u16])
     requires { Tidy t.now × Roots t.now keep.old × Ordered t.now order.now }
     ensures { Marks t.now (λ s. reached_from t.now (roots_of t.now keep.old) s) keep.new }
 {
-    let mut h = LONGEST;
-    while 0 < h {
+    for h in (1..=LONGEST).rev() {
         spread_height(t, h, order, keep);
-        h -= 1;
     }
 }
 

@@ -1,30 +1,23 @@
 use native.Mathlib.Omega.{arith}
-use mathlib.Core.Path.{◌≡◌}
-use Rattle.model.specs.Lists.{missions}
 use Rattle.rows.proofs.Facts.{named-inside}
 use Rattle.rows.proofs.Books.{start-named}
 use Rattle.reaching.proofs.Leading.{starts_none, starts-one-more, starts_fit}
 use Rattle.reaching.proofs.leads.lead_starts.Goals as goal
 
 pub loop-m-init : goal.loop-m-init
-loop-m-init c = (omega arith, starts_none c.args.t.now _)
+loop-m-init c = starts_none c.args.t.now _
 
 pub lead-requires : goal.lead-requires
 lead-requires c =
     let t = c.args.t.now in
     let (tidy, counted) = c.requires in
     let m = c.loop-m.m in
-    let (before, added) = c.loop-m.invariant in
+    let added = c.loop-m.invariant in
     let named = start-named t tidy m (omega arith) in
     rw c.start.ensures (
       omega (arith, named-inside t tidy _ named, added.long, counted.long),
-      starts_fit m _ tidy counted added before named,
+      starts_fit m _ tidy counted added (omega arith) named,
     )
 
 pub loop-m-preserved : goal.loop-m-preserved
-loop-m-preserved c =
-    let t = c.args.t.now in
-    (omega arith, starts-one-more t c.loop-m.m c.loop-m.invariant.1 c.start.ensures c.lead.ensures)
-
-pub returns : goal.returns
-returns c = let all : c.loop-m.m ≡ missions = omega arith in rw all at c.loop-m.invariant.1
+loop-m-preserved c = starts-one-more c.args.t.now c.loop-m.m c.loop-m.invariant c.start.ensures c.lead.ensures

@@ -11,9 +11,6 @@ use Rattle.reaching.proofs.Leading.{starts_fit, owes_more, owes-none, led-marks}
 use Rattle.reaching.proofs.leads.mark_without.Goals as goal
 use Rattle.reaching.proofs.leads.mark_without.Goals.{After-lead}
 
-pub lead_starts-requires : goal.lead_starts-requires
-lead_starts-requires c = (c.requires.0, c.requires.2)
-
 pub lead-requires : goal.lead-requires
 lead-requires c =
     let (tidy, named, counted, reach) = c.requires in

@@ -1,5 +1,5 @@
 use Prim.Native.Nat.{suc, ◌+◌}
-use mathlib.Core.Path.{◌≡◌, refl}
+use mathlib.Core.Path.{◌≡◌}
 use native.Mathlib.Omega.{arith}
 use lib.ListN.{get_or}
 use Rattle.rows.specs.Table.{height}
@@ -16,7 +16,7 @@ row : (c : In-loop-r) →
     let args = c.args in
     let r = c.loop-r.r in
     Used args.t.now r × (height args.t.now r ≡ args.h)
-row c = c.loop-r.invariant.1 (omega arith)
+row c = c.loop-r.invariant.0 (omega arith)
 
 next : (c : In-loop-r) →
     let args = c.args in
@@ -27,17 +27,7 @@ next c = before-latest c.requires.3 (row c).0 (row c).1
 pub loop-r-init : goal.loop-r-init
 loop-r-init c =
     let last = last-latest c.args.t.now c.args.order.now c.requires.3 c.args.h c.requires.2 in
-    rw c.last_at-r.ensures (refl, latest-row last, height-begun c.requires.0 c.args.h c.requires.1 last)
-
-pub spread_row-requires : goal.spread_row-requires
-spread_row-requires c = (c.requires.0, c.loop-r.invariant.2.roots, (row (goal.at.spread_row-requires c).In-loop-r).0)
-
-pub row_before-r-requires : goal.row_before-r-requires
-row_before-r-requires c =
-    (omega (arith, (row (goal.at.row_before-r-requires c).In-loop-r).0.inside, c.requires.0.most), c.requires.3.long)
-
-pub loop-r-smaller : goal.loop-r-smaller
-loop-r-smaller c = omega (arith, c.row_before-r.ensures, (next (goal.at.loop-r-smaller c).In-loop-r).below)
+    rw c.last_at-r.ensures (latest-row last, height-begun c.requires.0 c.args.h c.requires.1 last)
 
 pub loop-r-preserved : goal.loop-r-preserved
 loop-r-preserved c =
@@ -46,10 +36,10 @@ loop-r-preserved c =
     let spread = rw (row (goal.at.loop-r-preserved c).In-loop-r).1 at c.spread_row.ensures in
     let further = height-further c.requires.0 h spread.roots (omega (arith, (row (goal.at.loop-r-preserved c).In-loop-r).0.inside, c.requires.0.most)) (next (goal.at.loop-r-preserved c).In-loop-r) in
     rw c.row_before-r.ensures
-    (omega (arith, l.invariant.0, c.keep-1.given), latest-row (next (goal.at.loop-r-preserved c).In-loop-r), spreads-both l.invariant.2 (spreads-both spread further))
+    (latest-row (next (goal.at.loop-r-preserved c).In-loop-r), spreads-both l.invariant.1 (spreads-both spread further))
 
 pub returns : goal.returns
 returns c =
     let l = c.loop-r in
     let all : l.r ≡ 0 = omega arith in
-    spreads-both (rw all at l.invariant.2) (height-done c.requires.0 c.args.h l.invariant.2.roots)
+    spreads-both (rw all at l.invariant.1) (height-done c.requires.0 c.args.h l.invariant.1.roots)

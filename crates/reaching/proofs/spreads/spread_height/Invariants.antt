@@ -2,7 +2,6 @@
 -- their turn. The measure is `r`: the order's numbers fall. Assumes nothing.
 use Prim.Native.Nat.{suc, ◌<◌}
 use mathlib.Core.Path.{◌≡◌}
-use lib.ListN.{length}
 use Rattle.rows.specs.Table.{most_rows, height}
 use Rattle.rows.specs.Tidy.{Used}
 use Rattle.reaching.specs.Marks.{Spreads, turn}
@@ -10,7 +9,7 @@ use Rattle.reaching.proofs.spreads.spread_height.Given as goal
 
 abbrev pub invariant-loop-r : goal.invariant-loop-r
 invariant-loop-r l =
-    (length l.keep ≡ length l.initial.keep) × (0 < l.r → Used l.t l.r × (height l.t l.r ≡ l.h)) × Spreads l.t (turn l.h most_rows) (turn l.h (suc l.r)) l.initial.keep l.keep
+    (0 < l.r → Used l.t l.r × (height l.t l.r ≡ l.h)) × Spreads l.t (turn l.h most_rows) (turn l.h (suc l.r)) l.initial.keep l.keep
 
 abbrev pub decreases-loop-r : goal.decreases-loop-r
 decreases-loop-r l = l.r
