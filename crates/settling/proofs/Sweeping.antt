@@ -1,21 +1,23 @@
 -- Sweeping row by row. A table is `only_rows` of another if its head is the same and every number behind it is as the test of its row says. So
 -- tests that agree at every row keep the same rows, a test that passes at every row keeps the table, and two tests one after the other keep
--- what passes both. A row is freed number by number. Assumes nothing.
-use Prim.Native.Nat.{ℕ, ◌+◌, ◌*◌, ◌/◌, ◌≤◌, ◌<◌}
+-- what passes both. A row is freed by a write to its part of the table. Assumes nothing.
+use Prim.Native.Nat.{ℕ, ◌+◌, ◌-◌, ◌*◌, ◌/◌, ◌≤◌, ◌<◌}
 use native.Mathlib.Omega.{arith}
 use native.Mathlib.Decide.{ℕ_discrete, dec_lt}
 use mathlib.Core.Path.{◌≡◌, refl, sym, ◌∙◌}
-use mathlib.Core.Bool.{Bool, true, false, not, cond, ◌&&◌, ◌||◌, or-true, or-false, and-true}
+use mathlib.Core.Bool.{Bool, true, false, not, cond, ◌&&◌, ◌||◌, or-true, and-true}
 use mathlib.Core.List.{List}
 use lib.Dec.{eqb, leb}
-use lib.ListN.{length, get_or, set, length-set}
-use lib.Seq.{ext_get_or, get_or-set_same, get_or-set_other}
+use lib.ListN.{length, get_or, replicate, length-replicate}
+use lib.Seq.{ext_get_or}
 use borrow.Author.Tests.{eq-eqb, ne_eqb, le-leb, lt-leb}
+use borrow.Author.Rules.{rules}
+use borrow.Rule.Slice.PartMut.{put_mid}
+use Rattle.std.proofs.lemmas.List.{places}
 use Rattle.rows.specs.Table.{Table, width, row_count}
 use Rattle.rows.specs.Reach.{only_rows}
 use Rattle.rows.proofs.Facts.{inside-row}
-use Rattle.index.specs.Arcs.{Arcs}
-use Rattle.index.specs.Index.{Takes, ArcsAt}
+use Rattle.rows.proofs.Zeros.{zero-cell}
 use Rattle.reaching.specs.Marks.{Marks, marked}
 use Rattle.settling.proofs.Swept.{only-length, only-head, only-behind}
 
@@ -57,42 +59,37 @@ module _ (t : Table) (f : ℕ → Bool) where
       both false true n = refl
       both false false n = refl
 
--- the first i numbers of row r are 0, and no other number is changed
-pub record Freed (t v : Table) (r i : ℕ) : Type 0 where
-  pub long : length v ≡ length t
-  pub before : (j : ℕ) → j < r * width → get_or v j 0 ≡ get_or t j 0
-  pub zeros : (j : ℕ) → r * width ≤ j → j < r * width + i → get_or v j 0 ≡ 0
-  pub behind : (j : ℕ) → r * width + i ≤ j → get_or v j 0 ≡ get_or t j 0
+-- a part of the table is written: the numbers before it and behind it stay
+module _ (t ys : Table) (a k : ℕ) (inside : a + k ≤ length t) (long : length ys ≡ k) where
+  written-long : length (put_mid a k t ys) ≡ length t
+  written-long = search (rules, places)
 
-pub freed-none : (t : Table) (r : ℕ) → Freed t t r 0
-freed-none t r = record { long = refl; before = λ j h. refl; zeros = λ j low h. absurd (omega arith); behind = λ j h. refl }
+  written-before : (j : ℕ) → j < a → get_or (put_mid a k t ys) j 0 ≡ get_or t j 0
+  written-before j h = search (rules, places)
 
-module _ (t v : Table) (r i : ℕ) where
-  pub freed-more : r < row_count t → i < width → Freed t v r i → Freed t (set v (r * width + i) 0) r (i + 1)
-  freed-more below h freed =
-      record {
-        long = length-set v (r * width + i) 0 ∙ freed.long;
-        before = λ j low. other j (λ e. omega arith) ∙ freed.before j low;
-        zeros = λ j low high.
-            elim (ℕ_discrete j (r * width + i)) [
-              | yes e ↦ rw e (get_or-set_same v (r * width + i) 0 0 (omega (arith, freed.long)))
-              | no e ↦ other j e ∙ freed.zeros j low (omega arith)
-            ];
-        behind = λ j high. other j (λ e. omega arith) ∙ freed.behind j (omega arith);
-      }
-    where
-      other : (j : ℕ) → (j ≡ r * width + i → ⊥) → get_or (set v (r * width + i) 0) j 0 ≡ get_or v j 0
-      other j e = get_or-set_other v (r * width + i) j 0 0 e
+  written-here : (j : ℕ) → a ≤ j → j < a + k → get_or (put_mid a k t ys) j 0 ≡ get_or ys (j - a) 0
+  written-here j low h = search (rules, places)
 
-  pub freed-done : 0 < r → i ≡ width → Freed t v r i → v ≡ only_rows t (λ s. not (eqb s r))
-  freed-done some all freed =
-      only-is t v (λ s. not (eqb s r)) freed.long (λ j h inside. freed.before j (omega arith))
-      (λ j h inside.
-      elim (ℕ_discrete (j / width) r) [
-        | yes e ↦ rw (eq-eqb (j / width) r e) (freed.zeros j (omega arith) (omega arith))
-        | no e ↦ rw (ne_eqb (j / width) r e)
-            (elim (dec_lt j (r * width)) [ yes low ↦ freed.before j low | no high ↦ freed.behind j (omega arith) ])
-      ])
+  written-behind : (j : ℕ) → a + k ≤ j → get_or (put_mid a k t ys) j 0 ≡ get_or t j 0
+  written-behind j h = search (rules, places)
+
+-- the part is a row, and it is zeros after
+pub freed : (t ys : Table) (r k : ℕ) → 0 < r → r < row_count t → k ≡ width → ys ≡ replicate width 0
+    → put_mid (r * width) k t ys ≡ only_rows t (λ s. not (eqb s r))
+freed t ys r k some below full zeros =
+    let inside : r * width + k ≤ length t = omega arith in
+    let long : length ys ≡ k = rw (zeros, length-replicate {A = ℕ} width 0) (sym full) in
+    only-is t _ (λ s. not (eqb s r)) (written-long t ys (r * width) k inside long)
+    (λ j h _. written-before t ys (r * width) k inside long j (omega arith))
+    (λ j h _.
+    elim (ℕ_discrete (j / width) r) [
+      | yes e ↦ rw (eq-eqb (j / width) r e, written-here t ys (r * width) k inside long j (omega arith) (omega arith), zeros) (zero-cell width (j - r * width))
+      | no e ↦ rw (ne_eqb (j / width) r e)
+          (elim (dec_lt j (r * width)) [
+            | yes low ↦ written-before t ys (r * width) k inside long j low
+            | no high ↦ written-behind t ys (r * width) k inside long j (omega arith)
+          ])
+    ])
 
 -- the test at a row's own turn: all other rows stay, and the row does if it is marked
 abbrev others : List ℕ → ℕ → ℕ → Bool
@@ -103,11 +100,6 @@ module _ (t : Table) (keep : List ℕ) (r : ℕ) where
   marked-stays e =
       sym (only-all t (others keep r) (λ s some inside.
       elim (ℕ_discrete s r) [ yes d ↦ rw (d, e, or-true) | no d ↦ rw (ne_eqb s r d) ]))
-
-  pub others-stay : marked keep r ≡ false → only_rows t (λ s. not (eqb s r)) ≡ only_rows t (λ s. not (eqb s r) || marked keep s)
-  others-stay e =
-      only-agree t (λ s. not (eqb s r)) (others keep r) (λ s some inside.
-      elim (ℕ_discrete s r) [ yes d ↦ rw (d, e, or-false) | no d ↦ rw (ne_eqb s r d) ])
 
 -- the rows from r on, whose turn is still to come, and those that are marked
 abbrev pub stays : List ℕ → ℕ → ℕ → Bool
@@ -146,8 +138,3 @@ pub marks-only : (t : Table) (test : ℕ → Bool) (keep : List ℕ) → length 
     → only_rows t (λ r. marked keep r) ≡ only_rows t test
 marks-only t test keep whole marks =
     only-agree t (λ r. marked keep r) test (λ r some inside. marks.marks r (inside-row t r some (omega arith)))
-
--- the arcs that are taken out of the index are those that lead to each row
-pub taken-arcs : {t : Table} {n : ℕ} {index arcs : List ℕ} → ArcsAt t index → Takes index n arcs → n ≡ row_count t → Arcs t arcs
-taken-arcs at takes all =
-    record { long = omega (arith, takes.long); counts = λ s some inside. takes.taken s (omega arith) ∙ at s some inside }

@@ -17,11 +17,8 @@ fn free_row(t: &mut [u16], r: usize)
     requires { is_row t.old r ≡ true }
     ensures { t.new ≡ only_rows t.old (λ s. not (eqb s r)) }
 {
-    let mut i = 0;
-    while i < WIDTH {
-        t[r * WIDTH + i] = 0;
-        i += 1;
-    }
+    let first = r * WIDTH;
+    t[first..first + WIDTH].fill(0);
 }
 
 // Frees the row if it is not marked.
@@ -40,11 +37,8 @@ fn sweep_rows(t: &mut [u16], keep: &[u16])
     requires { (length t.old ≡ row_count t.old * width) × (row_count t.old ≤ length keep.now) }
     ensures { t.new ≡ only_rows t.old (λ r. marked keep.now r) }
 {
-    let k = row_count(t);
-    let mut r = 1;
-    while r < k {
+    for r in 1..row_count(t) {
         sweep_row(t, r, keep);
-        r += 1;
     }
 }
 

@@ -1,17 +1,17 @@
+-- `free_row` meets its promise: the row's part of the table is filled with zeros. Assumes nothing.
+use mathlib.Core.Path.{◌≡◌}
 use native.Mathlib.Omega.{arith}
+use borrow.Author.Rules.{rules}
+use lib.ListN.{replicate, length}
+use Rattle.rows.specs.Table.{width}
 use Rattle.rows.proofs.Facts.{row_inside}
-use Rattle.settling.proofs.Sweeping.{freed-none, freed-more, freed-done}
+use Rattle.settling.proofs.Sweeping.{freed}
 use Rattle.settling.proofs.sweeps.free_row.Goals as goal
-
-pub loop-i-init : goal.loop-i-init
-loop-i-init c = (omega arith, (row_inside c.args.t.now _ c.requires).1, freed-none _ _)
-
-pub loop-i-preserved : goal.loop-i-preserved
-loop-i-preserved c =
-    let l = c.loop-i in
-    (omega arith, l.invariant.1, freed-more _ _ _ _ l.invariant.1 (omega arith) l.invariant.2)
 
 pub returns : goal.returns
 returns c =
-    let l = c.loop-i in
-    freed-done _ _ _ _ (row_inside c.args.t.now _ c.requires).0 (omega arith) l.invariant.2
+    let args = c.args in
+    let (some, below) = row_inside args.t.now args.r c.requires in
+    let long : length c.fill.new.self ≡ width = search rules in
+    let zeros : c.fill.new.self ≡ replicate width 0 = search rules in
+    freed args.t.now c.fill.new.self args.r _ some below (omega arith) zeros

@@ -1,15 +1,9 @@
 -- `sweep_rows` meets its promise. The loop's invariant: the rows from `r` on, whose turn is still to come, are as they were, and of the others
--- those that are marked. The measure is the rows that are left. Assumes nothing.
-use Prim.Native.Nat.{◌-◌, ◌<◌}
+-- those that are marked. Assumes nothing.
 use mathlib.Core.Path.{◌≡◌}
-use lib.ListN.{length}
-use Rattle.rows.specs.Table.{row_count}
 use Rattle.rows.specs.Reach.{only_rows}
 use Rattle.settling.proofs.Sweeping.{stays}
 use Rattle.settling.proofs.sweeps.sweep_rows.Given as goal
 
 abbrev pub invariant-loop-r : goal.invariant-loop-r
-invariant-loop-r l = (0 < l.r) × (l.k ≡ row_count l.initial.t) × (length l.t ≡ length l.initial.t) × (l.t ≡ only_rows l.initial.t (λ s. stays l.keep l.r s))
-
-abbrev pub decreases-loop-r : goal.decreases-loop-r
-decreases-loop-r l = l.k - l.r
+invariant-loop-r l = l.t ≡ only_rows l.initial.t (λ s. stays l.keep l.r s)
