@@ -8,7 +8,7 @@ use lib.ListN.{length, replicate, length-replicate}
 use Rattle.rows.specs.Table.{Table, width, row_count}
 use Rattle.rows.proofs.Zeros.{zero-cell}
 use Rattle.index.specs.Arcs.{arcs_to, Adds}
-use Rattle.index.specs.Index.{index_length, Keyed}
+use Rattle.index.specs.Index.{Keyed}
 use Rattle.rules.specs.Counted.{Tested, KeyedIf, ArcsCounted}
 
 -- a test that fails says nothing of the arcs that the array counts
@@ -29,6 +29,3 @@ counted-from-zeros t {n} whole inside d =
 -- the keys of the rows, after a test that passed or not
 pub keyed-if : {b : Bool} {t : Table} {n : ℕ} {index : List ℕ} → Keyed t n index → KeyedIf b t n index
 keyed-if k = record { long = k.keys.long; passed = λ e. k }
-
-pub not-keyed : {t : Table} {n : ℕ} {index : List ℕ} → length index ≡ index_length → KeyedIf false t n index
-not-keyed long = record { long = long; passed = λ e. absurd (false≢true e) }

@@ -5,7 +5,7 @@ use Prim.Native.Nat.{ℕ, ◌+◌, ◌-◌, ◌*◌, ◌/◌, ◌≤◌, ◌<◌
 use native.Mathlib.Omega.{arith}
 use native.Mathlib.Decide.{ℕ_discrete, dec_lt}
 use mathlib.Core.Path.{◌≡◌, refl, sym, ◌∙◌}
-use mathlib.Core.Bool.{Bool, true, false, not, cond, ◌&&◌, ◌||◌, or-true, or-false, and-true}
+use mathlib.Core.Bool.{Bool, true, false, not, cond, ◌&&◌, ◌||◌, or-true, and-true}
 use mathlib.Core.List.{List}
 use lib.Dec.{eqb, leb}
 use lib.ListN.{length, get_or, replicate, length-replicate}
@@ -18,8 +18,6 @@ use Rattle.rows.specs.Table.{Table, width, row_count}
 use Rattle.rows.specs.Reach.{only_rows}
 use Rattle.rows.proofs.Facts.{inside-row}
 use Rattle.rows.proofs.Zeros.{zero-cell}
-use Rattle.index.specs.Arcs.{Arcs}
-use Rattle.index.specs.Index.{Takes, ArcsAt}
 use Rattle.reaching.specs.Marks.{Marks, marked}
 use Rattle.settling.proofs.Swept.{only-length, only-head, only-behind}
 
@@ -103,11 +101,6 @@ module _ (t : Table) (keep : List ℕ) (r : ℕ) where
       sym (only-all t (others keep r) (λ s some inside.
       elim (ℕ_discrete s r) [ yes d ↦ rw (d, e, or-true) | no d ↦ rw (ne_eqb s r d) ]))
 
-  pub others-stay : marked keep r ≡ false → only_rows t (λ s. not (eqb s r)) ≡ only_rows t (λ s. not (eqb s r) || marked keep s)
-  others-stay e =
-      only-agree t (λ s. not (eqb s r)) (others keep r) (λ s some inside.
-      elim (ℕ_discrete s r) [ yes d ↦ rw (d, e, or-false) | no d ↦ rw (ne_eqb s r d) ])
-
 -- the rows from r on, whose turn is still to come, and those that are marked
 abbrev pub stays : List ℕ → ℕ → ℕ → Bool
 stays keep r s = leb r s || marked keep s
@@ -145,8 +138,3 @@ pub marks-only : (t : Table) (test : ℕ → Bool) (keep : List ℕ) → length 
     → only_rows t (λ r. marked keep r) ≡ only_rows t test
 marks-only t test keep whole marks =
     only-agree t (λ r. marked keep r) test (λ r some inside. marks.marks r (inside-row t r some (omega arith)))
-
--- the arcs that are taken out of the index are those that lead to each row
-pub taken-arcs : {t : Table} {n : ℕ} {index arcs : List ℕ} → ArcsAt t index → Takes index n arcs → n ≡ row_count t → Arcs t arcs
-taken-arcs at takes all =
-    record { long = omega (arith, takes.long); counts = λ s some inside. takes.taken s (omega arith) ∙ at s some inside }

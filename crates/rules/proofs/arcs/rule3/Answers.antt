@@ -11,11 +11,11 @@ use Rattle.letters.proofs.Below.{not_all_below}
 use Rattle.sets.specs.Below.{total}
 use Rattle.rows.specs.Table.{Table, row_count}
 use Rattle.rows.specs.Rules.{rule3}
-use Rattle.index.proofs.Keeping.{keyed-skip, keyed-less}
+use Rattle.index.proofs.Keeping.{keyed-skip}
 use Rattle.index.specs.Arcs.{arcs_below, Adds, Few}
 use Rattle.index.proofs.Arcs.{adds_none, adds-both, below-most, below_more}
 use Rattle.sets.proofs.Loops.{all_more, all_done}
-use Rattle.rules.proofs.Writes.{not-passed, keyed-if, not-keyed}
+use Rattle.rules.proofs.Writes.{not-passed}
 use Rattle.rules.proofs.arcs.rule3.Goals as goal
 
 -- the loop ends behind the last row, and in a table without rows at row 1, below which nothing is in use
@@ -43,12 +43,11 @@ pub row_ok-requires : goal.row_ok-requires
 row_ok-requires c =
     (search rules, c.requires.1, c.loop-r.invariant.3, few c.args.t.now c.loop-r.r c.requires.3 c.loop-r.invariant.2)
 
-pub returns-then-not-row_ok : goal.returns-then-not-row_ok
+pub returns-then-not-row_ok-clause-tested : goal.returns-then-not-row_ok-clause-tested
 unfolding rule3
-returns-then-not-row_ok c =
-    let l = c.loop-r in
+returns-then-not-row_ok-clause-tested c =
     let refused = sym c.row_ok.ensures.tested.says ∙ c.if-not-row_ok.true in
-    (record { tested = not-passed (sym (not_all_below _ _ l.r (omega arith) refused)) (omega arith); keyed = not-keyed c.row_ok.ensures.keyed.long })
+    not-passed (sym (not_all_below _ _ c.loop-r.r (omega arith) refused)) (omega arith)
 
 pub loop-r-preserved : goal.loop-r-preserved
 loop-r-preserved c =
@@ -61,15 +60,13 @@ loop-r-preserved c =
       rw add-one (c.row_ok.ensures.keyed.passed passed),
     )
 
-pub returns : goal.returns
+pub returns-clause-tested : goal.returns-clause-tested
 unfolding rule3
-returns c =
+returns-clause-tested c =
     let l = c.loop-r in
-    let t = c.args.t.now in (record {
-      tested = record {
-        says = sym (all_done _ l.r (row_count t) l.invariant.1 (omega arith));
-        long = l.invariant.2.long;
-        counts = λ _. all-rows t (row_count t) l.r (omega arith) (omega arith) l.invariant.2;
-      };
-      keyed = keyed-if (keyed-less (row_count t) (omega arith) l.invariant.3);
-    })
+    let t = c.args.t.now in
+    record {
+      says = sym (all_done _ l.r (row_count t) l.invariant.1 (omega arith));
+      long = l.invariant.2.long;
+      counts = λ _. all-rows t (row_count t) l.r (omega arith) (omega arith) l.invariant.2;
+    }

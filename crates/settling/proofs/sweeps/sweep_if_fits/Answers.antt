@@ -9,7 +9,7 @@ use Rattle.letters.specs.LetterSet.{count_of}
 use Rattle.rows.specs.Table.{row_count}
 use Rattle.rows.specs.Reach.{reached}
 use Rattle.reaching.proofs.Spreading.{reached-count}
-use Rattle.settling.proofs.Sweeping.{taken-arcs, marks-only}
+use Rattle.settling.proofs.Sweeping.{marks-only}
 use Rattle.settling.proofs.sweeps.sweep_if_fits.Goals as goal
 use Rattle.settling.proofs.sweeps.sweep_if_fits.Goals.{After-count_marked}
 
@@ -23,14 +23,6 @@ counted : (c : After-count_marked) →
     let t = c.args.t.now in
     c.count_marked.result ≡ count_of (row_count t) (λ r. reached t r)
 counted c = c.count_marked.ensures ∙ reached-count c.requires.0 c.mark_without.ensures
-
-pub mark_without-requires : goal.mark_without-requires
-mark_without-requires c =
-    let (tidy, named, reach, long, arcs) = c.requires in
-    (tidy, named, taken-arcs arcs c.take_arcs.ensures c.row_count.ensures, reach)
-
-pub count_marked-requires : goal.count_marked-requires
-count_marked-requires c = c.mark_without.ensures.long
 
 pub returns-then-room-count_marked : goal.returns-then-room-count_marked
 returns-then-room-count_marked c =

@@ -1,15 +1,9 @@
 use native.Mathlib.Omega.{arith}
-use Rattle.rows.proofs.Facts.{inside-row}
 use Rattle.settling.proofs.Sweeping.{stays-first, stays-more, stays-done}
 use Rattle.settling.proofs.sweeps.sweep_rows.Goals as goal
 
 pub loop-r-init : goal.loop-r-init
 loop-r-init c = stays-first c.args.t.now c.args.keep.now
-
-pub sweep_row-requires : goal.sweep_row-requires
-sweep_row-requires c =
-    let l = c.loop-r in
-    (inside-row l.t l.r (omega arith) (omega (arith, c.row_count-r-end.ensures)), omega (arith, c.row_count-r-end.ensures))
 
 pub loop-r-preserved : goal.loop-r-preserved
 loop-r-preserved c =

@@ -1,9 +1,6 @@
 -- `sweep_rows` meets its promise. The loop's invariant: the rows from `r` on, whose turn is still to come, are as they were, and of the others
 -- those that are marked. Assumes nothing.
-use Prim.Native.Nat.{◌-◌, ◌<◌}
 use mathlib.Core.Path.{◌≡◌}
-use lib.ListN.{length}
-use Rattle.rows.specs.Table.{row_count}
 use Rattle.rows.specs.Reach.{only_rows}
 use Rattle.settling.proofs.Sweeping.{stays}
 use Rattle.settling.proofs.sweeps.sweep_rows.Given as goal
