@@ -8,7 +8,7 @@ ghost use Rattle.model.specs.Call.Call.{empty, check, ask, next, add, remove, cl
 ghost use Rattle.promises.specs.Promises.{Promised};
 ghost use Rattle.exports.specs.Packed.{packed, unpacked_with, unpacked, unpacked_next};
 
-use answers::{Answer, ask_reply, next_reply, refusal_number};
+use answers::{Answer, Reply, refusal_number};
 
 // 2 to the power 32.
 const RADIX: u64 = 4294967296;
@@ -24,8 +24,8 @@ fn packed_answer(a: Answer) -> u64
     ensures { unpacked result ≡ answer_reply a }
 {
     match a {
-        Answer::Done(value) => packed(0, value),
-        Answer::Refused(r) => packed(refusal_number(r), 0),
+        Ok(value) => packed(0, value),
+        Err(r) => packed(refusal_number(r), 0),
     }
 }
 
@@ -45,7 +45,7 @@ pub fn book_check(table: &[u16]) -> u64
 pub fn book_ask(table: &[u16], mission: u32, name: &[u8], followed: &mut u32) -> u64
     ensures { Promised table.now table.now [] [] (ask mission name.now) (unpacked_with followed.new result) }
 {
-    let reply = ask_reply(calls::ask(table, mission, name));
+    let reply = Reply::from(calls::ask(table, mission, name));
     *followed = reply.second;
     packed(reply.number, reply.value as u32)
 }
@@ -55,7 +55,7 @@ pub fn book_ask(table: &[u16], mission: u32, name: &[u8], followed: &mut u32) ->
 pub fn book_next(table: &[u16], mission: u32, prefix: &[u8], letters: &mut u64) -> u64
     ensures { Promised table.now table.now [] [] (next mission prefix.now) (unpacked_next letters.new result) }
 {
-    let reply = next_reply(calls::next(table, mission, prefix));
+    let reply = Reply::from(calls::next(table, mission, prefix));
     *letters = reply.value;
     packed(reply.number, reply.second)
 }

@@ -8,6 +8,7 @@ use mathlib.Core.List.{List, [], ◌∷◌, ◌++◌}
 use lib.Dec.{ltb}
 use lib.ListN.{length, drop, length-map}
 use borrow.Author.Tests.{ltb-true, ltb-false, lt-ltb, le-ltb}
+use Rattle.std.specs.Prelude.{Err}
 use Rattle.letters.specs.Each.{Each}
 use Rattle.letters.specs.LetterSet.{flag}
 use Rattle.letters.specs.Words.{Word}
@@ -38,7 +39,6 @@ use Rattle.rows.proofs.Books.{list-names, no_start, no_empty, row-names, start-n
 use Rattle.growing.specs.Growing.{MadeRow, MadeFull}
 use Rattle.settling.specs.Settled.{fits, Startable, Settles}
 use Rattle.answers.specs.declared.cases.Refusal.TheVariants.{Operation, NotEmpty, NoRoom}
-use Rattle.answers.specs.declared.cases.Answer.TheVariants as answer
 use Rattle.answers.specs.declared.replies.Reply.{Reply}
 use Rattle.answers.specs.Replies.{answer_reply, reply_of}
 use Rattle.promises.specs.Books.{book_of}
@@ -66,7 +66,7 @@ pub record Fills (t : Table) (m : ℕ) (call : Call) (l : Words) (v : ℕ) : Typ
   pub says : (done : Bool) → done ≡ fits t m l → run (book_of t) call ≡ cond done (leaves (replace (lists t) m l) v) (refused 11 (book_of t))
 
 module _ {t : Table} {m : ℕ} {call : Call} {l : Words} {v : ℕ} (fills : Fills t m call l v) where
-  pub filled-full : (u after : Table) (most : ℕ) → MadeFull most t u l → after ≡ swept u → Changes t after call (answer_reply (answer.Refused NoRoom))
+  pub filled-full : (u after : Table) (most : ℕ) → MadeFull most t u l → after ≡ swept u → Changes t after call (answer_reply (Err NoRoom))
   filled-full u after most full e =
       let c = full-changed t fills.sound m fills.mission fills.empty l u after most full e in
       settled-changes t after call m l v (λ _. c.refused refl) false c (fills.says false c.says)
@@ -94,7 +94,7 @@ module _ (t : Table) (m : ℕ) (first second : List ℕ) (fine : Loadable t m fi
   abbrev loaded : Words
   loaded = both (names_of first) (names_of second)
 
-  pub load-not-empty : 0 < start t m → Changes t t (load_two m first second) (answer_reply (answer.Refused NotEmpty))
+  pub load-not-empty : 0 < start t m → Changes t t (load_two m first second) (answer_reply (Err NotEmpty))
   load-not-empty some =
       let full = start-names t (sound-facts t fine.sound).tidy m fine.mission some in
       refused-changes t (load_two m first second) NotEmpty
@@ -174,7 +174,7 @@ module _ (t : Table) (op a b c : ℕ) (fine : Combinable t op a b c) where
   pub third : c < missions
   third = omega (arith, fine.missions)
 
-  pub combine-not-empty : 0 < start t c → Changes t t (combine op a b c) (answer_reply (answer.Refused NotEmpty))
+  pub combine-not-empty : 0 < start t c → Changes t t (combine op a b c) (answer_reply (Err NotEmpty))
   combine-not-empty some =
       let full = start-names t (sound-facts t fine.sound).tidy c third some in
       refused-changes t (combine op a b c) NotEmpty

@@ -1,5 +1,5 @@
 // "combine the lists of missions a and b into the empty list of mission c".
-ghost use Rattle.std.specs.Prelude.{max, ◌≡◌, [], ltb};
+ghost use Rattle.std.specs.Prelude.{◌≡◌, [], ltb};
 ghost use Rattle.letters.specs.LetterSet.{flag};
 ghost use Rattle.model.specs.Call.Call.{combine};
 ghost use Rattle.model.specs.Refusals.{is_operation};
@@ -10,10 +10,10 @@ ghost use Rattle.promises.specs.Promises.{Changes, Promised};
 ghost use Rattle.filling.specs.Filling.{highest, Combinable};
 
 use super::rooms::no_room;
-use admitting::{Admission, admit_indexed, if_fine};
+use admitting::{admit_indexed, if_fine};
 use answers::{Answer, Refusal};
 use ending::settled;
-use growing::Made;
+use growing::Full;
 use index::INDEX;
 use pairing::combine_rows;
 use rows::start;
@@ -23,7 +23,7 @@ use settling::settle;
 fn has_names(r: u16) -> u32
     ensures { result ≡ flag (ltb 0 r) }
 {
-    if 0 < r { 1 } else { 0 }
+    u32::from(0 < r)
 }
 
 // On a sound book, two lists into that of a mission that has none.
@@ -34,8 +34,8 @@ fn fill_combined(t: &mut [u16], index: &mut [u16], op: u32, a: usize, b: usize, 
     let p = start(t, a);
     let q = start(t, b);
     match combine_rows(t, index, op, p, q) {
-        Made::Row(r) => settled(settle(t, index, c, r), has_names(r)),
-        Made::Full => no_room(t),
+        Ok(r) => settled(settle(t, index, c, r), has_names(r)),
+        Err(Full) => no_room(t),
     }
 }
 
@@ -45,7 +45,7 @@ fn combine_lists(t: &mut [u16], index: &mut [u16], op: u32, a: usize, b: usize, 
     ensures { Changes t.old t.new (combine op a b c) (answer_reply result) }
 {
     if start(t, c) != 0 {
-        return Answer::Refused(Refusal::NotEmpty);
+        return Err(Refusal::NotEmpty);
     }
     fill_combined(t, index, op, a, b, c)
 }
@@ -57,30 +57,18 @@ fn is_operation(op: u32) -> bool
     (1 <= op) & (op <= 3)
 }
 
-fn greater(a: u32, b: u32) -> u32
-    ensures { result ≡ max a b }
-{
-    if a < b { b } else { a }
-}
-
 // The greatest of three mission numbers: if it is a mission's, all are.
 fn highest(a: u32, b: u32, c: u32) -> u32
     ensures { result ≡ highest a b c }
 {
-    greater(greater(a, b), c)
+    a.max(b).max(c)
 }
 
 pub fn combine(t: &mut [u16], op: u32, a: u32, b: u32, c: u32) -> Answer
     ensures { Promised t.old t.new [] [] (combine op a b c) (answer_reply result) }
 {
     let mut index = [0u16; INDEX];
-    match admit_indexed(
-        t,
-        highest(a, b, c),
-        if_fine(is_operation(op), Refusal::Operation),
-        &mut index,
-    ) {
-        Admission::Admitted => combine_lists(t, &mut index, op, a as usize, b as usize, c as usize),
-        Admission::Refused(r) => Answer::Refused(r),
-    }
+    let operation = if_fine(is_operation(op), Refusal::Operation);
+    admit_indexed(t, highest(a, b, c), operation, &mut index)?;
+    combine_lists(t, &mut index, op, a as usize, b as usize, c as usize)
 }

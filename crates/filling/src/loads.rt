@@ -10,11 +10,11 @@ ghost use Rattle.promises.specs.Promises.{Changes, Promised};
 ghost use Rattle.filling.specs.Filling.{Loadable};
 
 use super::rooms::no_room;
-use admitting::{Admission, admit_indexed, if_fine};
+use admitting::{admit_indexed, if_fine};
 use answers::{Answer, Refusal};
 use building::build_lists;
 use ending::settled;
-use growing::Made;
+use growing::Full;
 use index::INDEX;
 use letters::is_list;
 use merging::name_count;
@@ -34,8 +34,8 @@ fn fill_lists<'a>(
 {
     let names = name_count(first, second) as u32;
     match build_lists(t, index, first, second) {
-        Made::Row(r) => settled(settle(t, index, m, r), names),
-        Made::Full => no_room(t),
+        Ok(r) => settled(settle(t, index, m, r), names),
+        Err(Full) => no_room(t),
     }
 }
 
@@ -51,7 +51,7 @@ fn load_lists<'a>(
     ensures { Changes t.old t.new (load_two m first.now second.now) (answer_reply result) }
 {
     if start(t, m) != 0 {
-        return Answer::Refused(Refusal::NotEmpty);
+        return Err(Refusal::NotEmpty);
     }
     fill_lists(t, index, m, first, second)
 }
@@ -60,25 +60,16 @@ fn load_lists<'a>(
 fn are_lists(first: &[u8], second: &[u8]) -> bool
     ensures { result ≡ (is_list first.now && is_list second.now) }
 {
-    if !is_list(first) {
-        return false;
-    }
-    is_list(second)
+    is_list(first) && is_list(second)
 }
 
 pub fn load_two<'a>(t: &mut [u16], m: u32, first: &'a [u8], second: &'a [u8]) -> Answer
     ensures { Promised t.old t.new [] [] (load_two m first.now second.now) (answer_reply result) }
 {
     let mut index = [0u16; INDEX];
-    match admit_indexed(
-        t,
-        m,
-        if_fine(are_lists(first, second), Refusal::List),
-        &mut index,
-    ) {
-        Admission::Admitted => load_lists(t, &mut index, m as usize, first, second),
-        Admission::Refused(r) => Answer::Refused(r),
-    }
+    let lists = if_fine(are_lists(first, second), Refusal::List);
+    admit_indexed(t, m, lists, &mut index)?;
+    load_lists(t, &mut index, m as usize, first, second)
 }
 
 pub fn load(t: &mut [u16], m: u32, list: &[u8]) -> Answer

@@ -6,7 +6,6 @@ ghost use Rattle.lines.specs.Requests.{request_of};
 ghost use Rattle.lines.specs.Promises.{written_behind};
 
 use super::requests::{Kind, request_of};
-use answers::Answer;
 use ranking::write;
 
 // "the names follow in order, one per line": as the call write puts them into what is left of the buffer.
@@ -15,8 +14,8 @@ fn list_names(t: &[u16], m: u32, out: &mut [u8]) -> usize
     ensures buffer { out.new ≡ overlaid (written_behind (book_of t.now) (Some (Kind.Count, m)) (length out.old)) out.old }
 {
     match write(t, m, out) {
-        Answer::Done(bytes) => bytes as usize,
-        Answer::Refused(_) => 0,
+        Ok(bytes) => bytes as usize,
+        Err(_) => 0,
     }
 }
 

@@ -4,7 +4,7 @@ ghost use Rattle.promises.specs.Promises.{Promised};
 ghost use Rattle.lines.specs.Requests.{call_of};
 
 use super::requests::Kind;
-use answers::{Reply, answer_reply, ask_reply};
+use answers::Reply;
 use calls::ask;
 use changing::{add, remove};
 use ranking::count;
@@ -14,9 +14,9 @@ pub fn call(t: &mut [u16], kind: Kind, m: u32, name: &[u8]) -> Reply
     ensures { Promised t.old t.new [] [] (call_of kind m name.now) result }
 {
     match kind {
-        Kind::Add => answer_reply(add(t, m, name)),
-        Kind::Remove => answer_reply(remove(t, m, name)),
-        Kind::Ask => ask_reply(ask(t, m, name)),
-        Kind::Count => answer_reply(count(t, m)),
+        Kind::Add => Reply::from(add(t, m, name)),
+        Kind::Remove => Reply::from(remove(t, m, name)),
+        Kind::Ask => Reply::from(ask(t, m, name)),
+        Kind::Count => Reply::from(count(t, m)),
     }
 }

@@ -119,7 +119,8 @@ fn begin(t: &mut [u16]) -> Place
     requires { length t.old ≡ desk_numbers }
     ensures { (result ≡ first_line) × (t.new ≡ replicate (length t.old) 0) }
 {
-    empty(t);
+    // The length is that of a book, so it is not refused.
+    let _ = empty(t);
     Place {
         at: 0,
         line: 1,

@@ -8,7 +8,7 @@ use Rattle.exports.proofs.book_next.Goals as goal
 
 pub returns : goal.returns
 returns c =
-    let reply = c.next_reply-reply.result in
+    let reply = c.from-reply.result in
     let same : unpacked_next reply.value c.packed.result ≡ next_reply c.next.result =
-    rw c.packed.ensures (packed-apart-next reply.value reply.number reply.second (omega arith) ∙ c.next_reply-reply.ensures) in
+    rw c.packed.ensures (packed-apart-next reply.value reply.number reply.second (omega arith) ∙ c.from-reply.ensures) in
     rw same c.next.ensures

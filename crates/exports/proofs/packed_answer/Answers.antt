@@ -3,9 +3,9 @@ use native.Mathlib.Omega.{arith}
 use Rattle.exports.proofs.Tight.{packed-apart}
 use Rattle.exports.proofs.packed_answer.Goals as goal
 
-pub returns-in-Done : goal.returns-in-Done
-returns-in-Done c = rw (c.in-Done.is, c.packed.ensures) (packed-apart 0 0 _ (omega arith))
+pub returns-in-Ok : goal.returns-in-Ok
+returns-in-Ok c = rw (c.in-Ok.is, c.packed.ensures) (packed-apart 0 0 _ (omega arith))
 
-pub returns-in-Refused : goal.returns-in-Refused
-returns-in-Refused c =
-    rw (c.in-Refused.is, c.packed-in-Refused.ensures, c.refusal_number.ensures) (packed-apart 0 _ 0 (omega arith))
+pub returns-in-Err : goal.returns-in-Err
+returns-in-Err c =
+    rw (c.in-Err.is, c.packed-in-Err.ensures, c.refusal_number.ensures) (packed-apart 0 _ 0 (omega arith))

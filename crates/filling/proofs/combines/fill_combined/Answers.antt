@@ -33,7 +33,7 @@ combine_rows-requires c =
 pub settle-requires : goal.settle-requires
 settle-requires c =
     let (given, _, empty) = c.requires in
-    let made = rw (c.in-Row.is, c.start-p.ensures, c.start-q.ensures) at c.combine_rows.ensures.makes in (
+    let made = rw (c.in-Ok.is, c.start-p.ensures, c.start-q.ensures) at c.combine_rows.ensures.makes in (
       made.grows.tidy,
       c.combine_rows.ensures.indexed,
       omega (arith, third _ _ _ _ _ given),
@@ -43,22 +43,22 @@ settle-requires c =
 
 pub no_room-requires : goal.no_room-requires
 no_room-requires c =
-    let full = rw c.in-Full.is at c.combine_rows.ensures.makes in
+    let full = rw c.in-Err.is at c.combine_rows.ensures.makes in
     full.grows.tidy
 
-pub returns-in-Row : goal.returns-in-Row
-returns-in-Row c =
+pub returns-in-Ok : goal.returns-in-Ok
+returns-in-Ok c =
     let (given, _, empty) = c.requires in
     let made =
-    rw (c.in-Row.is, c.start-p.ensures, c.start-q.ensures) at c.combine_rows.ensures.makes
+    rw (c.in-Ok.is, c.start-p.ensures, c.start-q.ensures) at c.combine_rows.ensures.makes
     in
     rw (c.settled.ensures, c.has_names.ensures, combined-value _ made)
     (filled-settled (combine-fills _ _ _ _ _ given empty) _ _ _ made _ _ c.settle.ensures)
 
-pub returns-in-Full : goal.returns-in-Full
-returns-in-Full c =
+pub returns-in-Err : goal.returns-in-Err
+returns-in-Err c =
     let (given, _, empty) = c.requires in
     let full =
-    rw (c.in-Full.is, c.start-p.ensures, c.start-q.ensures) at c.combine_rows.ensures.makes
+    rw (c.in-Err.is, c.start-p.ensures, c.start-q.ensures) at c.combine_rows.ensures.makes
     in
     rw c.no_room.ensures.answer (filled-full (combine-fills _ _ _ _ _ given empty) _ _ _ full c.no_room.ensures.table)

@@ -23,7 +23,7 @@ build_lists-requires c =
 pub settle-requires : goal.settle-requires
 settle-requires c =
     let (given, _, empty) = c.requires in
-    let made = rw c.in-Row.is at c.build_lists.ensures.makes in (
+    let made = rw c.in-Ok.is at c.build_lists.ensures.makes in (
       made.grows.tidy,
       c.build_lists.ensures.indexed,
       omega (arith, given.mission),
@@ -33,18 +33,18 @@ settle-requires c =
 
 pub no_room-requires : goal.no_room-requires
 no_room-requires c =
-    let full = rw c.in-Full.is at c.build_lists.ensures.makes in
+    let full = rw c.in-Err.is at c.build_lists.ensures.makes in
     full.grows.tidy
 
-pub returns-in-Row : goal.returns-in-Row
-returns-in-Row c =
+pub returns-in-Ok : goal.returns-in-Ok
+returns-in-Ok c =
     let (given, _, empty) = c.requires in
-    let made = rw c.in-Row.is at c.build_lists.ensures.makes in
+    let made = rw c.in-Ok.is at c.build_lists.ensures.makes in
     rw (c.settled.ensures, c.name_count-names.ensures)
     (filled-settled (load-fills _ _ _ _ given empty) _ _ _ made _ _ c.settle.ensures)
 
-pub returns-in-Full : goal.returns-in-Full
-returns-in-Full c =
+pub returns-in-Err : goal.returns-in-Err
+returns-in-Err c =
     let (given, _, empty) = c.requires in
-    let full = rw c.in-Full.is at c.build_lists.ensures.makes in
+    let full = rw c.in-Err.is at c.build_lists.ensures.makes in
     rw c.no_room.ensures.answer (filled-full (load-fills _ _ _ _ given empty) _ _ _ full c.no_room.ensures.table)
