@@ -82,7 +82,7 @@ pub fn next_at<'a>(
     requires { name.now ≡ next_bytes first.now second.now at }
     ensures { result.now ≡ next_bytes first.now second.now places }
 {
-    if places.first == at.first && places.second == at.second {
+    if places == at {
         return name;
     }
     next_part(first, second, places)

@@ -6,7 +6,7 @@ use letters::{name_at, name_end, order_of};
 use std::cmp::Ordering;
 
 // A place in each of the two lists.
-#[derive(Clone, Copy)]
+#[derive(Clone, Copy, PartialEq, Eq)]
 pub struct Places {
     pub first: usize,
     pub second: usize,

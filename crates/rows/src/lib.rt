@@ -12,8 +12,8 @@ mod table;
 
 pub use arcs::{Arcs, arcs_of};
 pub use fill::fill_with_zeros;
-pub use skips::{next_arc, past_zeros};
+pub use skips::past_zeros;
 pub use table::{
-    MISSIONS, MOST_ROWS, WIDTH, height, higher, in_use, is_row, length_ok, mark, number39, room,
-    row_count, start, target, targets, used_rows,
+    MISSIONS, MOST_ROWS, WIDTH, height, in_use, is_row, length_ok, mark, number39, room, row_count,
+    start, target, targets, used_rows,
 };

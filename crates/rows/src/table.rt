@@ -1,5 +1,5 @@
 // The table's length and room, a row's numbers by name, and the rows in use.
-ghost use Rattle.std.specs.Prelude.{◌<◌, max, ◌≡◌, length};
+ghost use Rattle.std.specs.Prelude.{◌<◌, ◌≡◌, length};
 ghost use Rattle.letters.specs.Letters.{letters};
 ghost use Rattle.rows.specs.Table.{row_count, length_ok, room, is_row, start, mark, height, target, row_targets, number39, in_use, used_rows};
 
@@ -83,13 +83,6 @@ pub fn height(t: &[u16], r: usize) -> u16
     ensures { result ≡ height t.now r }
 {
     t[r * WIDTH + 1]
-}
-
-// The higher of two heights.
-pub fn higher(a: usize, b: usize) -> usize
-    ensures { result ≡ max a b }
-{
-    if a < b { b } else { a }
 }
 
 // "Number 2+x is the target row for letter x, or 0 for none."
