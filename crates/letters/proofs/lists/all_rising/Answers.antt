@@ -1,54 +1,27 @@
-use Prim.Native.Nat.{◌+◌, ◌-◌, ◌<◌}
-use mathlib.Core.Path.{◌≡◌, refl, sym, ◌∙◌}
+use Prim.Native.Nat.{◌+◌, ◌-◌}
+use mathlib.Core.Path.{◌≡◌, sym, ◌∙◌}
 use mathlib.Core.Bool.{◌&&◌}
 use native.Mathlib.Omega.{arith}
-use lib.ListN.{length, take, drop, drop_of_length-le}
+use lib.ListN.{take, drop, drop_of_length-le}
 use Rattle.letters.specs.Lists.{lines_of, rises, names_of}
 use Rattle.letters.proofs.Lines.{name-part, name_end-le, rises-more, rises-last}
 use Rattle.letters.proofs.lists.all_rising.Goals as goal
-use Rattle.letters.proofs.lists.all_rising.Goals.{After-is_before, After-name_end-next_end, At-loop-end}
+use Rattle.letters.proofs.lists.all_rising.Goals.{After-is_before}
 
 pub returns-then-s-eq0 : goal.returns-then-s-eq0
 unfolding rises lines_of
 returns-then-s-eq0 c = rw (drop_of_length-le c.args.s.now {i = 0} (omega arith))
 
-pub loop-end-init : goal.loop-end-init
-loop-end-init c = (omega arith, c.name_end-end.ensures, refl)
-
 -- a line ends within the list
-ends : (c : At-loop-end) → c.loop-end.end < length c.args.s.now + 1
-ends c = omega (arith, name_end-le c.args.s.now c.loop-end.at (omega (arith, c.loop-end.invariant.0)), c.loop-end.invariant.1)
-
 pub overflow_add-end : goal.overflow_add-end
-overflow_add-end c = omega (arith, ends c)
-
-pub overflow_add-next : goal.overflow_add-next
-overflow_add-next c = omega (arith, ends (goal.at.overflow_add-next c).At-loop-end)
-
-pub slice_bounds-is_before-count : goal.slice_bounds-is_before-count
-slice_bounds-is_before-count c = omega (arith, c.loop-end.invariant.1)
-
-pub slice_bounds-is_before-start : goal.slice_bounds-is_before-start
-slice_bounds-is_before-start c = omega (arith, c.loop-end.invariant.1)
-
-pub slice_bounds-is_before-end : goal.slice_bounds-is_before-end
-slice_bounds-is_before-end c = omega (arith, ends (goal.at.slice_bounds-is_before-end c).At-loop-end)
+overflow_add-end c =
+    let inv = c.loop-end.invariant in
+    omega (arith, name_end-le c.args.s.now c.loop-end.at (omega (arith, inv.0)), inv.1)
 
 -- and so does the next one
-next-ends : (c : After-name_end-next_end) →
-    c.name_end-next_end.result < length c.args.s.now + 1
-next-ends c =
-    let s = c.args.s.now in
-    omega (arith, name_end-le s (c.loop-end.end + 1) (omega (arith, c.loop-end-test.true)), c.name_end-next_end.ensures)
-
-pub slice_bounds-is_before-count-in-loop-end : goal.slice_bounds-is_before-count-in-loop-end
-slice_bounds-is_before-count-in-loop-end c = omega (arith, c.name_end-next_end.ensures)
-
-pub slice_bounds-is_before-start-in-loop-end : goal.slice_bounds-is_before-start-in-loop-end
-slice_bounds-is_before-start-in-loop-end c = omega (arith, c.name_end-next_end.ensures)
-
 pub slice_bounds-is_before-end-in-loop-end : goal.slice_bounds-is_before-end-in-loop-end
-slice_bounds-is_before-end-in-loop-end c = omega (arith, next-ends (goal.at.slice_bounds-is_before-end-in-loop-end c).After-name_end-next_end)
+slice_bounds-is_before-end-in-loop-end c =
+    omega (arith, name_end-le c.args.s.now (c.loop-end.end + 1) (omega (arith, c.loop-end-test.true)), c.name_end-next_end.ensures)
 
 -- once the two names are compared
 compared : (c : After-is_before) →
@@ -66,9 +39,6 @@ compared c =
 
 pub returns-then-not-is_before : goal.returns-then-not-is_before
 returns-then-not-is_before c = rw (compared (goal.at.returns-then-not-is_before c).After-is_before, c.if-not-is_before.true)
-
-pub loop-end-smaller : goal.loop-end-smaller
-loop-end-smaller c = omega (arith, c.loop-end.invariant.0, c.loop-end.invariant.1)
 
 pub loop-end-preserved : goal.loop-end-preserved
 loop-end-preserved c = (
