@@ -6,7 +6,7 @@ use Rattle.rows.specs.Skips.{NextArc}
 use Rattle.rows.specs.declared.arcs.Arcs.{Arcs}
 
 -- the next arc from s on is the one for letter x, to n
-pub record Arc (s : Arcs) (x n : ℕ) : Type 0 where
+pub record ArcFrom (s : Arcs) (x n : ℕ) : Type 0 where
   pub next : NextArc s.t.now s.row s.from x
   pub inside : x < letters
   pub to : n ≡ target s.t.now s.row x
@@ -15,7 +15,7 @@ pub record Arc (s : Arcs) (x n : ℕ) : Type 0 where
 pub record YieldsArc (s : Arcs) (arc : Option (ℕ × ℕ)) (e : Arcs) : Type 0 where
   pub table : e.t ≡ s.t
   pub row : e.row ≡ s.row
-  pub gives : MatchOption arc (NextArc s.t.now s.row s.from letters × (e.from ≡ s.from)) (λ a. Arc s a.0 a.1 × (e.from ≡ suc a.0))
+  pub gives : MatchOption arc (NextArc s.t.now s.row s.from letters × (e.from ≡ s.from)) (λ a. ArcFrom s a.0 a.1 × (e.from ≡ suc a.0))
 
 -- the arcs are those of row r
 pub record ArcsOf (t : Table) (r : ℕ) (a : Arcs) : Type 0 where
