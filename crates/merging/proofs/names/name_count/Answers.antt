@@ -1,22 +1,11 @@
-use Prim.Native.Nat.{◌+◌, ◌≤◌}
 use mathlib.Core.Path.{ap}
 use native.Mathlib.Omega.{arith}
 use lib.ListN.{length}
-use Rattle.letters.specs.Lists.{longest_list}
-use Rattle.letters.proofs.Lines.{list-parts}
 use Rattle.sets.specs.Sets.{Words}
 use Rattle.merging.specs.Merging.{next_bytes}
 use Rattle.merging.proofs.Merging.{both-lists, Taken, left-taken, none_left}
 use Rattle.merging.proofs.names.name_count.Goals as goal
-use Rattle.merging.proofs.names.name_count.Goals.{After-places_after-at, At-loop-at}
-
--- both have at most 65,535 bytes
-short : (c : At-loop-at) →
-    let args = c.args in
-    length args.first.now + length args.second.now ≤ longest_list + longest_list
-short c =
-    let (one, two) = c.requires in
-    omega (arith, (list-parts _ one).0, (list-parts _ two).0)
+use Rattle.merging.proofs.names.name_count.Goals.{After-places_after-at}
 
 -- one name more
 more : (c : After-places_after-at) →
@@ -29,16 +18,6 @@ more c =
 
 pub loop-at-init : goal.loop-at-init
 loop-at-init c = let (one, two) = c.requires in (both-lists _ _ one two, omega arith, omega arith)
-
-pub overflow_add-at : goal.overflow_add-at
-overflow_add-at c = omega (arith, short (goal.at.overflow_add-at c).At-loop-at, c.loop-at.invariant.0.first.inside, c.loop-at.invariant.0.second.inside)
-
-pub overflow_add-first : goal.overflow_add-first
-overflow_add-first c = omega (arith, short (goal.at.overflow_add-first c).At-loop-at)
-
-pub overflow_add-n : goal.overflow_add-n
-overflow_add-n c =
-    omega (arith, short (goal.at.overflow_add-n c).At-loop-at, c.loop-at.invariant.2, c.loop-at.invariant.0.first.inside, c.loop-at.invariant.0.second.inside)
 
 pub loop-at-smaller : goal.loop-at-smaller
 loop-at-smaller c = (more c).less
