@@ -1,4 +1,5 @@
--- `index_rows` meets its promise. The loop's invariant: the rows below `r` are chained, and the keys and the numbers of arcs are there. Assumes nothing.
+-- `index_rows` meets its promise. The loop's invariant: the rows below `r` are chained, and the keys and the numbers of arcs are there.
+-- Assumes nothing.
 use Prim.Native.Nat.{◌≤◌, ◌<◌}
 use Rattle.rows.specs.Table.{row_count}
 use Rattle.chains.specs.Chains.{Chained}

@@ -1,4 +1,5 @@
--- `has` meets its promise. The loop's invariant: `same` says whether the row has the wanted mark, and the wanted targets at the letters below `x`. Assumes nothing.
+-- `has` meets its promise. The loop's invariant: `same` says whether the row has the wanted mark, and the wanted targets at the letters below `x`.
+-- Assumes nothing.
 use mathlib.Core.Path.{◌≡◌}
 use mathlib.Core.Bool.{◌&&◌}
 use lib.Dec.{eqb}
