@@ -1,24 +1,26 @@
 -- The arcs of a row, one after another. Assumes nothing.
-use Rattle.std.specs.Prelude.{ℕ, ◌<◌, ◌≡◌, suc, get_or, Option, MatchOption}
+use Rattle.std.specs.Prelude.{ℕ, ◌<◌, ◌≡◌, suc, Option, MatchOption}
 use Rattle.letters.specs.Letters.{letters}
-use Rattle.rows.specs.Table.{Table, row_targets, target}
-use Rattle.rows.specs.Skips.{Skipped, NextArc}
+use Rattle.rows.specs.Table.{Table, target}
+use Rattle.rows.specs.Skips.{NextArc}
 use Rattle.rows.specs.declared.arcs.Arcs.{Arcs}
 
 -- the next arc from s on is the one for letter x, to n
 pub record ArcFrom (s : Arcs) (x n : ℕ) : Type 0 where
-  pub next : Skipped s.targets.now s.from letters x
+  pub next : NextArc s.t.now s.row s.from x
   pub inside : x < letters
-  pub to : n ≡ get_or s.targets.now x 0
+  pub to : n ≡ target s.t.now s.row x
 
 -- what the next of the arcs from s on is, or that there are no more; and e goes on behind it
 pub record YieldsArc (s : Arcs) (arc : Option (ℕ × ℕ)) (e : Arcs) : Type 0 where
-  pub row : e.targets ≡ s.targets
-  pub gives : MatchOption arc (Skipped s.targets.now s.from letters letters × (e.from ≡ s.from)) (λ a. ArcFrom s a.0 a.1 × (e.from ≡ suc a.0))
+  pub table : e.t ≡ s.t
+  pub row : e.row ≡ s.row
+  pub gives : MatchOption arc (NextArc s.t.now s.row s.from letters × (e.from ≡ s.from)) (λ a. ArcFrom s a.0 a.1 × (e.from ≡ suc a.0))
 
 -- the arcs are those of row r
 pub record ArcsOf (t : Table) (r : ℕ) (a : Arcs) : Type 0 where
-  pub row : a.targets.now ≡ row_targets t r
+  pub table : a.t.now ≡ t
+  pub row : a.row ≡ r
 
 -- from s to e: the next arc of row r is the one for letter x, to n
 pub record Goes (t : Table) (r : ℕ) (s e : Arcs) (x n : ℕ) : Type 0 where
