@@ -1,6 +1,6 @@
 -- What eight zeros say of the numbers, how zeros add up, and what is kept past them. Assumes nothing.
 use Prim.Native.Nat.{ℕ, zero, suc, ◌+◌, ◌-◌, ◌*◌, ◌≤◌, ◌<◌}
-use mathlib.Core.Path.{◌≡◌, refl, sym}
+use mathlib.Core.Path.{◌≡◌, refl, sym, ◌∙◌}
 use mathlib.Core.Bool.{Bool, true, false, ◌&&◌, and-eq-true_iff}
 use mathlib.Core.Logic.{◌⊎◌, inl, inr}
 use mathlib.Core.List.{List}
@@ -74,18 +74,15 @@ past given P step a (suc e) low none p =
     ]
 
 module _ (t : Table) (r : ℕ) where
-  -- the places of a row's targets, as letters
-  pub skipped-arc : (x e : ℕ) → Skipped t (r * width + 2 + x) (r * width + 2 + letters) e → NextArc t r x (e - (r * width + 2))
-  skipped-arc x e d =
-      record {
-        from = omega (arith, d.before.from);
-        to = omega (arith, d.to);
-        none = λ y h k. d.before.zeros (r * width + 2 + y) (omega arith) (omega (arith, d.before.from));
-        stops = λ h.
-            let place : r * width + 2 + (e - (r * width + 2)) ≡ e = omega (arith, d.before.from) in
-            rw place (d.stops (omega arith));
-      }
-
   -- the targets of a row, taken out of the table
   pub row_target : (x : ℕ) → x < letters → get_or (row_targets t r) x 0 ≡ target t r x
   row_target x h = rw (get_or-take, get_or-drop)
+
+  pub skipped-arc : (x e : ℕ) → Skipped (row_targets t r) x letters e → NextArc t r x e
+  skipped-arc x e d =
+      record {
+        from = d.before.from;
+        to = d.to;
+        none = λ y h k. sym (row_target y (omega (arith, d.to))) ∙ d.before.zeros y h k;
+        stops = λ h. rw (row_target e h) at d.stops h;
+      }

@@ -1,12 +1,7 @@
 // Most numbers of a table are 0. A loop that has nothing to do for them goes on at the next that is not,
 // and eight are tested at once.
 ghost use Rattle.std.specs.Prelude.{◌+◌, ◌≤◌, ◌<◌, ◌≡◌, length};
-ghost use Rattle.letters.specs.Letters.{letters};
-ghost use Rattle.rows.specs.Table.{row_count};
-ghost use Rattle.rows.specs.Skips.{eight_zeros, Skipped, SkippedEights, NextArc};
-
-use super::table::WIDTH;
-use letters::LETTERS;
+ghost use Rattle.rows.specs.Skips.{eight_zeros, Skipped, SkippedEights};
 
 // Are the eight numbers from a on 0?
 fn eight_zeros(s: &[u16], a: usize) -> bool
@@ -55,13 +50,4 @@ pub fn past_zeros(s: &[u16], a: usize, end: usize) -> usize
 {
     let e = past_eights(s, a, end);
     past_ones(s, e, end)
-}
-
-// The first letter from x on that the row has a target for, or the number of letters.
-pub fn next_arc(t: &[u16], r: usize, x: usize) -> usize
-    requires { (r < row_count t.now) × (x ≤ letters) }
-    ensures { NextArc t.now r x result }
-{
-    let first = r * WIDTH + 2;
-    past_zeros(t, first + x, first + LETTERS) - first
 }

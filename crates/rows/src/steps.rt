@@ -5,8 +5,7 @@ ghost use Rattle.letters.specs.Letters.{letters};
 ghost use Rattle.rows.specs.Arcs.{YieldsArc};
 
 use super::arcs::Arcs;
-use super::skips::next_arc;
-use super::table::target;
+use super::skips::past_zeros;
 use letters::LETTERS;
 
 impl<'a> Iterator for Arcs<'a> {
@@ -17,11 +16,11 @@ impl<'a> Iterator for Arcs<'a> {
     ghost remaining = { λ s. at_most (letters - s.from) };
 
     fn next(&mut self) -> Option<(usize, usize)> {
-        let x = next_arc(self.t, self.row, self.from);
+        let x = past_zeros(self.targets, self.from, LETTERS);
         if x == LETTERS {
             return None;
         }
         self.from = x + 1;
-        Some((x, target(self.t, self.row, x) as usize))
+        Some((x, self.targets[x] as usize))
     }
 }
