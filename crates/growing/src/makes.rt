@@ -7,7 +7,7 @@ ghost use Rattle.growing.specs.Growing.{Fitting, Makes};
 
 use super::heights::height_over;
 use super::writes::write_row;
-use index::{enter, find, free_row, key_of};
+use index::{Wanted, enter, find, free_row};
 use letters::LETTERS;
 use rows::past_zeros;
 
@@ -37,7 +37,7 @@ pub fn make(
     if mark == 1 && past_zeros(&targets, 0, LETTERS) == LETTERS {
         return Ok(0);
     }
-    let same = find(t, index, mark, &targets, key_of(mark, &targets));
+    let same = find(t, index, Wanted::new(mark, &targets));
     if same != 0 {
         return Ok(same as u16);
     }

@@ -9,7 +9,7 @@ use native.Mathlib.Decide.{ℕ_discrete}
 use native.Mathlib.Omega.{arith}
 use borrow.Author.Tests.{eqb-true, eqb-false, ne_eqb, not-true}
 use lib.Dec.{eqb}
-use lib.ListN.{get_or, length-take, length-drop}
+use lib.ListN.{length, get_or, length-take, length-drop}
 use Rattle.letters.specs.Letters.{letters}
 use Rattle.letters.proofs.Below.{all-below, below_all}
 use Rattle.sets.proofs.Below.{tests_agree, some_below_lem, below-some}
@@ -20,24 +20,28 @@ use Rattle.rows.proofs.Facts.{in-use-used}
 use Rattle.rows.proofs.Skipping.{lower-or-not, row_target}
 use Rattle.chains.specs.Chains.{Latest}
 use Rattle.chains.proofs.Chains.{latest-here}
-use Rattle.index.specs.Buckets.{row_key, bucket_of, bucket}
-use Rattle.index.specs.Index.{has, agrees, Wanted, Finds}
+use Rattle.index.specs.Buckets.{key_of, row_key, bucket_of, bucket}
+use Rattle.index.specs.Index.{has, agrees, Finds}
 use Rattle.index.proofs.Buckets.{same_key, bucket-used, in-bucket}
+
+-- the key is that of the mark and the targets
+abbrev pub KeyOf : ℕ → List ℕ → ℕ → Type 0
+KeyOf k targets key = key ≡ key_of k (λ x. get_or targets x 0)
 
 module _ (t : Table) (r k : ℕ) (targets : List ℕ) where
   -- a row with the mark and the targets has their key
-  pub has_key : (key : ℕ) → Wanted k targets key → has t r k targets ≡ true → row_key t r ≡ key
-  has_key key wanted e =
+  pub has_key : (key : ℕ) → KeyOf k targets key → has t r k targets ≡ true → row_key t r ≡ key
+  has_key key keyed e =
       let (marks, same) = (and-eq-true_iff (eqb (mark t r) k) _).0 e in
-      rw (eqb-true (mark t r) k marks, wanted.keyed)
+      rw (eqb-true (mark t r) k marks, keyed)
       (same_key k _ _ (λ x h. eqb-true (target t r x) (get_or targets x 0) (all-below _ letters same x h)))
 
   agrees-used : agrees t r k targets ≡ true → Used t r
   agrees-used e = in-use-used t r ((and-eq-true_iff (in_use t r) (has t r k targets)).0 e).0
 
-  agrees-bucket : (key : ℕ) → Wanted k targets key → agrees t r k targets ≡ true → bucket t r ≡ bucket_of key
-  agrees-bucket key wanted e =
-      bucket-used (agrees-used e) ∙ rw (has_key key wanted ((and-eq-true_iff (in_use t r) (has t r k targets)).0 e).1)
+  agrees-bucket : (key : ℕ) → KeyOf k targets key → agrees t r k targets ≡ true → bucket t r ≡ bucket_of key
+  agrees-bucket key keyed e =
+      bucket-used (agrees-used e) ∙ rw (has_key key keyed ((and-eq-true_iff (in_use t r) (has t r k targets)).0 e).1)
 
 -- what is known at row r of the chain: the rows behind it, up to n, do not agree
 pub record Seeks (t : Table) (n k : ℕ) (targets : List ℕ) (key r : ℕ) : Type 0 where
@@ -46,9 +50,9 @@ pub record Seeks (t : Table) (n k : ℕ) (targets : List ℕ) (key r : ℕ) : Ty
   pub none : (q : ℕ) → r < q → q ≤ n → agrees t q k targets ≡ true → ⊥
 
 module _ {t : Table} {n k : ℕ} {targets : List ℕ} {key : ℕ} where
-  pub seeks-next : {r m : ℕ} → Wanted k targets key → 0 < r → Seeks t n k targets key r → has t r k targets ≡ false
+  pub seeks-next : {r m : ℕ} → KeyOf k targets key → 0 < r → Seeks t n k targets key r → has t r k targets ≡ false
       → Latest (λ q. bucket t q) (bucket t r) r m → Seeks t n k targets key m
-  seeks-next {r} {m} wanted some s differs l =
+  seeks-next {r} {m} keyed some s differs l =
       record {
         low = omega (arith, s.low, l.below);
         there = λ h.
@@ -59,32 +63,30 @@ module _ {t : Table} {n k : ℕ} {targets : List ℕ} {key : ℕ} where
             elim (ℕ_discrete q r) [
               | yes d ↦ false≢true (sym differs ∙ ((and-eq-true_iff (in_use t r) (has t r k targets)).0 (rw d at e)).1)
               | no d ↦ elim (lower-or-not q r) [
-                | inl lower ↦ l.none q above lower (agrees-bucket t q k targets key wanted e ∙ sym (s.there some).1)
+                | inl lower ↦ l.none q above lower (agrees-bucket t q k targets key keyed e ∙ sym (s.there some).1)
                 | inr upper ↦ s.none q (omega arith) low e
               ]
             ];
       }
 
   -- where n is the last row of the bucket, no row agrees that is behind it
-  pub finds-all : {f : ℕ} → Wanted k targets key → Latest (λ q. bucket t q) (bucket_of key) (row_count t) n → Finds t n k targets f
+  pub finds-all : {f : ℕ} → KeyOf k targets key → Latest (λ q. bucket t q) (bucket_of key) (row_count t) n → Finds t n k targets f
       → Finds t (row_count t) k targets f
-  finds-all {f} wanted l d =
+  finds-all {f} keyed l d =
       record {
         low = omega (arith, d.low, l.below);
         there = d.there;
         none = λ none q low e.
-            d.none none q (latest-here l q (agrees-used t q k targets e).inside (agrees-bucket t q k targets key wanted e)) e;
+            d.none none q (latest-here l q (agrees-used t q k targets e).inside (agrees-bucket t q k targets key keyed e)) e;
       }
 
 -- the mark and the targets of a row in use
 module _ (t : Table) (s : ℕ) (used : Used t s) where
-  pub row-wanted : Wanted (mark t s) (row_targets t s) (row_key t s)
-  row-wanted =
-      record {
-        some = used.marked;
-        long = rw (length-take, length-drop) (omega (arith, used.inside));
-        keyed = same_key (mark t s) _ _ (λ x h. sym (row_target t s x h));
-      }
+  pub row-long : length (row_targets t s) ≡ letters
+  row-long = rw (length-take, length-drop) (omega (arith, used.inside))
+
+  pub row-keyed : KeyOf (mark t s) (row_targets t s) (row_key t s)
+  row-keyed = same_key (mark t s) _ _ (λ x h. sym (row_target t s x h))
 
   agree-has : (r : ℕ) → agree t r s ≡ has t r (mark t s) (row_targets t s)
   agree-has r =
@@ -113,6 +115,6 @@ module _ (t : Table) (s : ℕ) (used : Used t s) where
           let agreed = rw (agree-has q) at same in
           elim (ℕ_discrete f 0) [
             | yes none ↦
-                absurd (d.none none q (latest-here l q below (agrees-bucket t q (mark t s) (row_targets t s) (row_key t s) row-wanted agreed ∙ sym (bucket-used used))) agreed)
+                absurd (d.none none q (latest-here l q below (agrees-bucket t q (mark t s) (row_targets t s) (row_key t s) row-keyed agreed ∙ sym (bucket-used used))) agreed)
             | no some ↦ rw (ne_eqb f 0 some)
           ]

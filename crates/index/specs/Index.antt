@@ -7,7 +7,7 @@ use Rattle.rows.specs.Table.{Table, row_count, most_rows, mark, target, in_use}
 use Rattle.rows.specs.Tidy.{Used}
 use Rattle.chains.specs.Chains.{Chained}
 use Rattle.index.specs.Arcs.{arcs_from, arcs_to}
-use Rattle.index.specs.Buckets.{key_of, row_key, bucket, buckets}
+use Rattle.index.specs.Buckets.{row_key, bucket, buckets}
 
 -- the place of a row's key
 abbrev pub key_place : ℕ → ℕ
@@ -57,12 +57,6 @@ has t r k targets = eqb (mark t r) k && all_below letters (λ x. eqb (target t r
 
 abbrev pub agrees : Table → ℕ → ℕ → List ℕ → Bool
 agrees t r k targets = in_use t r && has t r k targets
-
--- a mark and targets, with their key
-pub record Wanted (k : ℕ) (targets : List ℕ) (key : ℕ) : Type 0 where
-  pub some : 0 < k
-  pub long : length targets ≡ letters
-  pub keyed : key ≡ key_of k (λ x. get_or targets x 0)
 
 -- f is a row in use, of the rows up to n, that agrees; or 0 if none of them does
 pub record Finds (t : Table) (n k : ℕ) (targets : List ℕ) (f : ℕ) : Type 0 where

@@ -11,5 +11,5 @@ mod keys;
 
 pub use builds::{INDEX, index_rows, keep_arcs, keep_key, take_arcs};
 pub use enters::{enter, free_row};
-pub use finds::{find, has_twin};
-pub use keys::{key_from, key_of, mixed, mixed_mark};
+pub use finds::{Wanted, find, has_twin};
+pub use keys::{key_from, mixed, mixed_mark};

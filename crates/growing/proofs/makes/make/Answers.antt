@@ -5,11 +5,13 @@ use mathlib.Core.Path.{◌≡◌, sym, ◌∙◌}
 use native.Mathlib.Omega.{arith}
 use lib.ListN.{get_or}
 use Rattle.letters.specs.Letters.{letters}
+use Rattle.rows.specs.Table.{row_count}
+use Rattle.index.specs.Index.{Finds}
 use Rattle.growing.specs.Rows.{height_over, NewRow}
 use Rattle.growing.proofs.Entering.{Free, first-free, written-entering}
 use Rattle.growing.proofs.Making.{height-fits, targets-inside, none_made, found-made, full-made, new-made}
 use Rattle.growing.proofs.makes.make.Goals as goal
-use Rattle.growing.proofs.makes.make.Goals.{else-mark-eq1-via-then-mark-eq1+else-past_zeros-eq-LETTERS, else-mark-eq1-via-else-mark-eq1, After-write_row, Else-free-eq0, Joined-else-mark-eq1, Start}
+use Rattle.growing.proofs.makes.make.Goals.{else-mark-eq1-via-then-mark-eq1+else-past_zeros-eq-LETTERS, else-mark-eq1-via-else-mark-eq1, After-find-same, After-write_row, Else-free-eq0, Joined-else-mark-eq1, Start}
 
 pub returns-then-past_zeros-eq-LETTERS-clause-makes : goal.returns-then-past_zeros-eq-LETTERS-clause-makes
 returns-then-past_zeros-eq-LETTERS-clause-makes c =
@@ -29,10 +31,15 @@ some c one =
       | else-mark-eq1-via-else-mark-eq1 w ↦ absurd (omega arith)
     ]
 
+-- what is found has the mark and the targets
+found : (c : After-find-same) → let args = c.args in
+    Finds args.t.now (row_count args.t.now) args.mark args.targets c.find-same.result
+found c = rw (c.new.ensures.mark, c.new.ensures.targets) at c.find-same.ensures
+
 pub returns-then-same-ne0-clause-makes : goal.returns-then-same-ne0-clause-makes
 returns-then-same-ne0-clause-makes c =
     let (tidy, indexed, fitting) = c.requires in
-    found-made _ _ _ tidy fitting c.find-same.ensures (omega arith)
+    found-made _ _ _ tidy fitting (found (goal.at.returns-then-same-ne0-clause-makes c).After-find-same) (omega arith)
 
 pub returns-then-free-eq0-clause-makes : goal.returns-then-free-eq0-clause-makes
 returns-then-free-eq0-clause-makes c =
@@ -70,5 +77,5 @@ returns-clause-makes c =
     let none : c.find-same.result ≡ 0 = omega arith in
     let at = goal.at.returns-clause-makes c in
     rw c.free_row-free.ensures
-    (new-made _ _ _ tidy fitting _ (some at.Joined-else-mark-eq1) (rw none at c.find-same.ensures) _ (free at.Else-free-eq0)
+    (new-made _ _ _ tidy fitting _ (some at.Joined-else-mark-eq1) (rw none at (found at.After-find-same)) _ (free at.Else-free-eq0)
     (written at.After-write_row))

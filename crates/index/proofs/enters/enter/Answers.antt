@@ -8,18 +8,18 @@ use Rattle.rows.specs.Table.{most_rows}
 use Rattle.index.specs.Buckets.{row_key, bucket, buckets}
 use Rattle.index.specs.Index.{index_length, Gaps, entered}
 use Rattle.index.proofs.Buckets.{bucket-used}
-use Rattle.index.proofs.Seeking.{row-wanted}
+use Rattle.index.proofs.Seeking.{row-long, row-keyed}
 use Rattle.index.proofs.Entering.{stored-entered, gap-place, entered-indexed}
 use Rattle.index.proofs.enters.enter.Goals as goal
 use Rattle.index.proofs.enters.enter.Goals.{After-gap-place, After-key_of-key}
 
 pub key_of-key-requires : goal.key_of-key-requires
-key_of-key-requires c = rw c.targets.ensures (row-wanted c.args.t.now c.args.r c.enter_arcs.ensures.used).long
+key_of-key-requires c = rw c.targets.ensures (row-long c.args.t.now c.args.r c.enter_arcs.ensures.used)
 
 -- the key is that of the row
 keyed : (c : After-key_of-key) → c.key_of-key.result ≡ row_key c.args.t.now c.args.r
 keyed c =
-    c.key_of-key.ensures ∙ rw (c.mark.ensures, c.targets.ensures) (sym (row-wanted c.args.t.now c.args.r c.enter_arcs.ensures.used).keyed)
+    c.key_of-key.ensures ∙ rw (c.mark.ensures, c.targets.ensures) (sym (row-keyed c.args.t.now c.args.r c.enter_arcs.ensures.used))
 
 -- the place is a gap of the row's bucket
 gap-there : (c : After-gap-place) → Gaps c.enter_arcs.new.index (bucket c.args.t.now c.args.r) c.args.r c.gap-place.result

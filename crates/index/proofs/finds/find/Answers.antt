@@ -9,7 +9,7 @@ use Rattle.index.proofs.finds.find.Goals as goal
 pub returns : goal.returns
 returns c =
     let t = c.args.t.now in
-    let last : Latest (λ q. bucket t q) (bucket_of c.args.key) (row_count t) c.last_of-n.result =
+    let last : Latest (λ q. bucket t q) (bucket_of c.args.wanted.key) (row_count t) c.last_of-n.result =
     rw (c.last_of-n.ensures, ← c.bucket_of.ensures)
-    (c.requires.0.chained.lasts c.bucket_of.result (omega (arith, c.bucket_of.ensures))) in
-    finds-all c.requires.1 last c.find_from.ensures
+    (c.requires.chained.lasts c.bucket_of.result (omega (arith, c.bucket_of.ensures))) in
+    finds-all c.args.wanted.keyed last c.find_from.ensures

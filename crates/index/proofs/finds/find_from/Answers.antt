@@ -14,4 +14,4 @@ loop-r-preserved c =
     let some : 0 < r = omega arith in
     let next : Latest (λ q. bucket t q) (bucket t r) r c.behind-r.result =
     rw c.behind-r.ensures (c.requires.0.chained.links r some (seeks.there some).0.inside) in
-    seeks-next c.requires.1 some seeks (sym c.is_wanted.ensures ∙ c.if-is_wanted.false) next
+    seeks-next c.args.wanted.keyed some seeks (sym c.is_at.ensures ∙ c.if-is_at.false) next

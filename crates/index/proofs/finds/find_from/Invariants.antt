@@ -4,7 +4,7 @@ use Rattle.index.proofs.Seeking.{Seeks}
 use Rattle.index.proofs.finds.find_from.Given as goal
 
 abbrev pub invariant-loop-r : goal.invariant-loop-r
-invariant-loop-r l = Seeks l.t l.n l.wanted l.targets l.key l.r
+invariant-loop-r l = Seeks l.t l.n l.wanted.mark l.wanted.targets.now l.wanted.key l.r
 
 abbrev pub decreases-loop-r : goal.decreases-loop-r
 decreases-loop-r l = l.r
