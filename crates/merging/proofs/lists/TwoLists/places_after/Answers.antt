@@ -10,7 +10,7 @@ use Rattle.letters.specs.Lists.{name_end}
 use Rattle.letters.proofs.Lines.{name_end-le}
 use Rattle.merging.specs.declared.places.Turn.TheVariants.{First, Second, Both}
 use Rattle.merging.proofs.Turns.{left_by}
-use Rattle.merging.proofs.places.places_after.Goals as goal
+use Rattle.merging.proofs.lists.TwoLists.places_after.Goals as goal
 
 -- a name ends inside its list
 inside : (list : List ℕ) (at end : ℕ) → end ≡ name_end list at → at < length list → end ≤ length list

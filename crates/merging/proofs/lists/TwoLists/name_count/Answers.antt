@@ -7,13 +7,13 @@ use Rattle.letters.proofs.Lines.{list-parts}
 use Rattle.sets.specs.Sets.{Words}
 use Rattle.merging.specs.Merging.{next_bytes}
 use Rattle.merging.proofs.Merging.{both-lists, Taken, left-taken, none_left}
-use Rattle.merging.proofs.names.name_count.Goals as goal
-use Rattle.merging.proofs.names.name_count.Goals.{After-places_after-at, At-loop-at}
+use Rattle.merging.proofs.lists.TwoLists.name_count.Goals as goal
+use Rattle.merging.proofs.lists.TwoLists.name_count.Goals.{After-places_after-at, At-loop-at}
 
 -- both have at most 65,535 bytes
 short : (c : At-loop-at) →
     let args = c.args in
-    length args.first.now + length args.second.now ≤ longest_list + longest_list
+    length args.self.first.now + length args.self.second.now ≤ longest_list + longest_list
 short c =
     let (one, two) = c.requires in
     omega (arith, (list-parts _ one).0, (list-parts _ two).0)
@@ -22,7 +22,7 @@ short c =
 more : (c : After-places_after-at) →
     let args = c.args in
     let at = c.loop-at.at in
-    Taken args.first.now args.second.now at (next_bytes args.first.now args.second.now at) c.places_after-at.result
+    Taken args.self.first.now args.self.second.now at (next_bytes args.self.first.now args.self.second.now at) c.places_after-at.result
 more c =
     let lists = c.loop-at.invariant.0 in
     rw c.places_after-at.ensures (left-taken lists (omega (arith, c.loop-at-test.true, lists.first.inside, lists.second.inside)))
@@ -33,8 +33,8 @@ loop-at-init c = let (one, two) = c.requires in (both-lists _ _ one two, omega a
 pub overflow_add-at : goal.overflow_add-at
 overflow_add-at c = omega (arith, short (goal.at.overflow_add-at c).At-loop-at, c.loop-at.invariant.0.first.inside, c.loop-at.invariant.0.second.inside)
 
-pub overflow_add-first : goal.overflow_add-first
-overflow_add-first c = omega (arith, short (goal.at.overflow_add-first c).At-loop-at)
+pub overflow_add-self : goal.overflow_add-self
+overflow_add-self c = omega (arith, short (goal.at.overflow_add-self c).At-loop-at)
 
 pub overflow_add-n : goal.overflow_add-n
 overflow_add-n c =

@@ -5,7 +5,7 @@ use mathlib.Core.Path.{refl, sym, ◌∙◌}
 use mathlib.Core.Logic.{inl, inr}
 use Rattle.merging.specs.declared.places.Turn.TheVariants.{First, Second, Both}
 use Rattle.merging.proofs.Turns.{left_by}
-use Rattle.merging.proofs.names.next_part.Goals as goal
+use Rattle.merging.proofs.lists.TwoLists.next_part.Goals as goal
 
 pub returns-in-First : goal.returns-in-First
 returns-in-First c =

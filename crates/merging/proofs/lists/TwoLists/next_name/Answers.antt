@@ -1,6 +1,6 @@
 -- `next_name` meets its promise: each list is tested, and what is left is `next_part`. Assumes nothing.
 use mathlib.Core.Path.{refl, sym, ◌∙◌}
-use Rattle.merging.proofs.names.next_name.Goals as goal
+use Rattle.merging.proofs.lists.TwoLists.next_name.Goals as goal
 
 pub returns-then-not-is_list : goal.returns-then-not-is_list
 returns-then-not-is_list c = rw (sym c.is_list.ensures ∙ c.if-not-is_list.true) refl
