@@ -7,7 +7,7 @@ ghost use Rattle.merging.specs.Merging.{next_bytes};
 ghost use Rattle.building.specs.Groups.{Begins, first_places, opening, Deep, depth_of};
 
 use letters::letter_of;
-use merging::{Places, next_part, places_after};
+use merging::{Places, TwoLists};
 
 // The places of the next name, and its depth in the group: one more than the letters that it shares with
 // the group's; 0 where there is no next name.
@@ -48,16 +48,10 @@ fn depth_of(name: &[u8], next: &[u8]) -> usize
 }
 
 // Where a group goes on: the first name may be the group's letters alone, and is then passed.
-pub fn first_ahead<'a>(
-    first: &'a [u8],
-    second: &'a [u8],
-    at: Places,
-    name: &'a [u8],
-    depth: usize,
-) -> Ahead
-    requires { Begins first.now second.now at name.now depth }
-    ensures places { result.places ≡ first_places first.now second.now at name.now depth }
-    ensures deep { Deep first.now second.now (opening name.now depth) result }
+pub fn first_ahead(lists: TwoLists<'_>, at: Places, name: &[u8], depth: usize) -> Ahead
+    requires { Begins lists.first.now lists.second.now at name.now depth }
+    ensures places { result.places ≡ first_places lists.entry.first.now lists.entry.second.now at name.now depth }
+    ensures deep { Deep lists.entry.first.now lists.entry.second.now (opening name.now depth) result }
 {
     if depth < name.len() {
         return Ahead {
@@ -65,25 +59,19 @@ pub fn first_ahead<'a>(
             deep: depth + 1,
         };
     }
-    let places = places_after(first, second, at);
-    let deep = depth_of(name, next_part(first, second, places));
+    let places = lists.places_after(at);
+    let deep = depth_of(name, lists.next_part(places));
     Ahead { places, deep }
 }
 
 // The next name at some places. The one at `at` is held already: it is not looked for again at each of its
 // letters.
-pub fn next_at<'a>(
-    first: &'a [u8],
-    second: &'a [u8],
-    at: Places,
-    name: &'a [u8],
-    places: Places,
-) -> &'a [u8]
-    requires { name.now ≡ next_bytes first.now second.now at }
-    ensures { result.now ≡ next_bytes first.now second.now places }
+pub fn next_at<'a>(lists: TwoLists<'a>, at: Places, name: &'a [u8], places: Places) -> &'a [u8]
+    requires { name.now ≡ next_bytes lists.first.now lists.second.now at }
+    ensures { result.now ≡ next_bytes lists.entry.first.now lists.entry.second.now places }
 {
     if places == at {
         return name;
     }
-    next_part(first, second, places)
+    lists.next_part(places)
 }

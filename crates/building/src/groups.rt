@@ -12,7 +12,7 @@ ghost use Rattle.building.specs.Building.{Builds};
 use super::depths::{Ahead, first_ahead, next_at};
 use growing::{Full, end_mark, make};
 use letters::{LETTERS, letter_of};
-use merging::{Places, next_part};
+use merging::{Places, TwoLists};
 
 // The row of a group, and what is ahead of its letters behind its names.
 #[derive(Clone, Copy)]
@@ -26,24 +26,23 @@ pub struct Group {
 fn build<'a>(
     t: &mut [u16],
     index: &mut [u16],
-    first: &'a [u8],
-    second: &'a [u8],
+    lists: TwoLists<'a>,
     at: Places,
     name: &'a [u8],
     depth: usize,
 ) -> Result<Group, Full>
-    requires { Tidy t.old × Indexed t.old index.old × Begins first.now second.now at name.now depth }
-    ensures builds { Builds t.old t.new first.now second.now at name.now depth result }
+    requires { Tidy t.old × Indexed t.old index.old × Begins lists.first.now lists.second.now at name.now depth }
+    ensures builds { Builds t.old t.new lists.entry.first.now lists.entry.second.now at name.now depth result }
     ensures indexed { Indexed t.new index.new }
 {
-    let mut ahead = first_ahead(first, second, at, name, depth);
+    let mut ahead = first_ahead(lists, at, name, depth);
     let mut targets = [0u16; LETTERS];
     // A while: it goes on as long as what the group before hands back is deep enough; nothing is counted.
     while depth < ahead.deep {
         let places = ahead.places;
-        let next = next_at(first, second, at, name, places);
+        let next = next_at(lists, at, name, places);
         let x = letter_of(next[depth]);
-        let group = build(t, index, first, second, places, next, depth + 1)?;
+        let group = build(t, index, lists, places, next, depth + 1)?;
         targets[x] = group.row;
         ahead = group.ahead;
     }
@@ -52,24 +51,19 @@ fn build<'a>(
 }
 
 // The row for the names of two lists, each once. "No bytes is the empty list."
-pub fn build_lists<'a>(
-    t: &mut [u16],
-    index: &mut [u16],
-    first: &'a [u8],
-    second: &'a [u8],
-) -> Result<u16, Full>
-    requires { Tidy t.old × Indexed t.old index.old × (is_list first.now ≡ true) × (is_list second.now ≡ true) }
-    ensures makes { Makes (row_count t.old) t.old t.new (both (names_of first.now) (names_of second.now)) result }
+pub fn build_lists(t: &mut [u16], index: &mut [u16], lists: TwoLists<'_>) -> Result<u16, Full>
+    requires { Tidy t.old × Indexed t.old index.old × (is_list lists.first.now ≡ true) × (is_list lists.second.now ≡ true) }
+    ensures makes { Makes (row_count t.old) t.old t.new (both (names_of lists.entry.first.now) (names_of lists.entry.second.now)) result }
     ensures indexed { Indexed t.new index.new }
 {
     let at = Places {
         first: 0,
         second: 0,
     };
-    let name = next_part(first, second, at);
+    let name = lists.next_part(at);
     if name.len() == 0 {
         return Ok(0);
     }
-    let group = build(t, index, first, second, at, name, 0)?;
+    let group = build(t, index, lists, at, name, 0)?;
     Ok(group.row)
 }

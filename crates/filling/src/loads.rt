@@ -17,59 +17,48 @@ use ending::settled;
 use growing::Full;
 use index::INDEX;
 use letters::is_list;
-use merging::name_count;
+use merging::TwoLists;
 use rows::start;
 use settling::settle;
 
 // On a sound book, two lists for a mission that has none.
-fn fill_lists<'a>(
-    t: &mut [u16],
-    index: &mut [u16],
-    m: usize,
-    first: &'a [u8],
-    second: &'a [u8],
-) -> Answer
-    requires { Loadable t.old m first.now second.now × Indexed t.old index.old × (start t.old m ≡ 0) }
-    ensures { Changes t.old t.new (load_two m first.now second.now) (answer_reply result) }
+fn fill_lists(t: &mut [u16], index: &mut [u16], m: usize, lists: TwoLists<'_>) -> Answer
+    requires { Loadable t.old m lists.first.now lists.second.now × Indexed t.old index.old × (start t.old m ≡ 0) }
+    ensures { Changes t.old t.new (load_two m lists.entry.first.now lists.entry.second.now) (answer_reply result) }
 {
-    let names = name_count(first, second) as u32;
-    match build_lists(t, index, first, second) {
+    let names = lists.name_count() as u32;
+    match build_lists(t, index, lists) {
         Ok(r) => settled(settle(t, index, m, r), names),
         Err(Full) => no_room(t),
     }
 }
 
 // On a sound book: refusal 8, and the rest.
-fn load_lists<'a>(
-    t: &mut [u16],
-    index: &mut [u16],
-    m: usize,
-    first: &'a [u8],
-    second: &'a [u8],
-) -> Answer
-    requires { Loadable t.old m first.now second.now × Indexed t.old index.old }
-    ensures { Changes t.old t.new (load_two m first.now second.now) (answer_reply result) }
+fn load_lists(t: &mut [u16], index: &mut [u16], m: usize, lists: TwoLists<'_>) -> Answer
+    requires { Loadable t.old m lists.first.now lists.second.now × Indexed t.old index.old }
+    ensures { Changes t.old t.new (load_two m lists.entry.first.now lists.entry.second.now) (answer_reply result) }
 {
     if start(t, m) != 0 {
         return Err(Refusal::NotEmpty);
     }
-    fill_lists(t, index, m, first, second)
+    fill_lists(t, index, m, lists)
 }
 
 // "5 if either is no list".
-fn are_lists(first: &[u8], second: &[u8]) -> bool
-    ensures { result ≡ (is_list first.now && is_list second.now) }
+fn are_lists(lists: TwoLists<'_>) -> bool
+    ensures { result ≡ (is_list lists.entry.first.now && is_list lists.entry.second.now) }
 {
-    is_list(first) && is_list(second)
+    is_list(lists.first) && is_list(lists.second)
 }
 
 pub fn load_two<'a>(t: &mut [u16], m: u32, first: &'a [u8], second: &'a [u8]) -> Answer
     ensures { Promised t.old t.new [] [] (load_two m first.now second.now) (answer_reply result) }
 {
     let mut index = [0u16; INDEX];
-    let lists = if_fine(are_lists(first, second), Refusal::List);
-    admit_indexed(t, m, lists, &mut index)?;
-    load_lists(t, &mut index, m as usize, first, second)
+    let lists = TwoLists { first, second };
+    let listed = if_fine(are_lists(lists), Refusal::List);
+    admit_indexed(t, m, listed, &mut index)?;
+    load_lists(t, &mut index, m as usize, lists)
 }
 
 pub fn load(t: &mut [u16], m: u32, list: &[u8]) -> Answer

@@ -3,8 +3,9 @@
 // lists, each once, in order.
 #![tactic(auto)]
 
+mod lists;
 mod names;
 mod places;
 
-pub use names::{name_count, next_name, next_part};
-pub use places::{Places, Turn, places_after, whose_turn};
+pub use lists::TwoLists;
+pub use places::{Places, Turn};

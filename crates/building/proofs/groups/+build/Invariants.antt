@@ -11,10 +11,10 @@ use Rattle.building.proofs.groups.+build.Given as goal
 
 abbrev pub invariant-loop-ahead : goal.invariant-loop-ahead
 invariant-loop-ahead l =
-    Passed l.initial.t l.t l.first l.second l.at l.name l.depth l.ahead l.targets × Indexed l.t l.index
+    Passed l.initial.t l.t l.lists.first.now l.lists.second.now l.at l.name l.depth l.ahead l.targets × Indexed l.t l.index
 
 abbrev pub decreases-loop-ahead : goal.decreases-loop-ahead
-decreases-loop-ahead l = length (both_from l.first l.second l.ahead.places)
+decreases-loop-ahead l = length (both_from l.lists.first.now l.lists.second.now l.ahead.places)
 
 abbrev pub decreases-build : goal.decreases-build
 decreases-build l = longest - l.depth

@@ -13,18 +13,18 @@ use Rattle.admitting.proofs.Admitting.{fine-true, first-begins, admitted, refuse
 use Rattle.ending.proofs.Changes.{refused-changes}
 use Rattle.std.proofs.lemmas.Result.{err_from_is_err_and}
 use Rattle.filling.proofs.loads.load_two.Goals as goal
-use Rattle.filling.proofs.loads.load_two.Goals.{After-if_fine-lists}
+use Rattle.filling.proofs.loads.load_two.Goals.{After-if_fine-listed}
 
 -- what was found of the lists
-found : (c : After-if_fine-lists) →
+found : (c : After-if_fine-listed) →
     let args = c.args in
-    c.if_fine-lists.result ≡ if_fine (is_list args.first.now && is_list args.second.now) List
-found c = c.if_fine-lists.ensures ∙ rw c.are_lists.ensures
+    c.if_fine-listed.result ≡ if_fine (is_list args.first.now && is_list args.second.now) List
+found c = c.if_fine-listed.ensures ∙ rw c.are_lists.ensures
 
 pub load_lists-requires : goal.load_lists-requires
 load_lists-requires c =
     let fine = admitted _ _ _ c.in_ok-admit_indexed.ensures.number in
-    let (listed, also) = (and-eq-true_iff _ _).0 (fine-true _ List (sym (found (goal.at.load_lists-requires c).After-if_fine-lists) ∙ fine.arguments)) in (
+    let (listed, also) = (and-eq-true_iff _ _).0 (fine-true _ List (sym (found (goal.at.load_lists-requires c).After-if_fine-listed) ∙ fine.arguments)) in (
       record { sound = fine.sound; mission = fine.mission; listed = listed; also = also },
       c.in_ok-admit_indexed.ensures.indexed,
     )
@@ -45,5 +45,5 @@ returns-in_err-admit_indexed c =
     promises-change _ _ call _ refl (λ p. p) refl
     (refused-changes args.t.now call _
     (refused-first b (rule b call) (first_tests b args.m (if_fine fine List)) more (first-begins b args.m fine List more)
-    _ (rw (found (goal.at.returns-in_err-admit_indexed c).After-if_fine-lists) at c.in_err-admit_indexed.ensures.number)))
+    _ (rw (found (goal.at.returns-in_err-admit_indexed c).After-if_fine-listed) at c.in_err-admit_indexed.ensures.number)))
     )

@@ -4,25 +4,25 @@ use Rattle.std.specs.declared.cmp.Ordering.TheVariants.{Less, Equal, Greater}
 use Rattle.std.specs.declared.cmp.Ordering.{Ordering}
 use Rattle.merging.specs.Merging.{turn_of}
 use Rattle.merging.proofs.Turns.{turn-neither, turn-second, turn-first, answer, turn-answer}
-use Rattle.merging.proofs.places.whose_turn.Goals as goal
-use Rattle.merging.proofs.places.whose_turn.Goals.{After-order_of}
+use Rattle.merging.proofs.lists.TwoLists.whose_turn.Goals as goal
+use Rattle.merging.proofs.lists.TwoLists.whose_turn.Goals.{After-order_of}
 
 -- the order of the two names decides
 decided : (c : After-order_of) (r : Ordering) → c.order_of.result ≡ r
     → let args = c.args in
-    answer r ≡ turn_of args.first.now args.second.now args.at
+    answer r ≡ turn_of args.self.first.now args.self.second.now args.at
 decided c r e =
     turn-answer _ _ _ r _ _ (sym e ∙ c.order_of.ensures) c.name_at.ensures.bytes c.name_at-2.ensures.bytes
-    c.if-first-i.false c.if-second-j-2.false
+    c.if-self-i.false c.if-self-j-2.false
 
-pub returns-then-second-j : goal.returns-then-second-j
-returns-then-second-j c = sym (turn-neither _ _ _ c.if-first-i.true c.if-second-j.true)
+pub returns-then-self-j : goal.returns-then-self-j
+returns-then-self-j c = sym (turn-neither _ _ _ c.if-self-i.true c.if-self-j.true)
 
-pub returns-then-first-i : goal.returns-then-first-i
-returns-then-first-i c = sym (turn-second _ _ _ c.if-first-i.true c.if-second-j.false)
+pub returns-then-self-i : goal.returns-then-self-i
+returns-then-self-i c = sym (turn-second _ _ _ c.if-self-i.true c.if-self-j.false)
 
-pub returns-then-second-j-2 : goal.returns-then-second-j-2
-returns-then-second-j-2 c = sym (turn-first _ _ _ c.if-first-i.false c.if-second-j-2.true)
+pub returns-then-self-j-2 : goal.returns-then-self-j-2
+returns-then-self-j-2 c = sym (turn-first _ _ _ c.if-self-i.false c.if-self-j-2.true)
 
 pub returns-in-Less : goal.returns-in-Less
 returns-in-Less c = decided (goal.at.returns-in-Less c).After-order_of Less c.in-Less.is

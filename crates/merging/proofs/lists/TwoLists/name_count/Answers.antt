@@ -1,23 +1,44 @@
+use Prim.Native.Nat.{◌+◌, ◌≤◌}
 use mathlib.Core.Path.{ap}
 use native.Mathlib.Omega.{arith}
 use lib.ListN.{length}
+use Rattle.letters.specs.Lists.{longest_list}
+use Rattle.letters.proofs.Lines.{list-parts}
 use Rattle.sets.specs.Sets.{Words}
 use Rattle.merging.specs.Merging.{next_bytes}
 use Rattle.merging.proofs.Merging.{both-lists, Taken, left-taken, none_left}
-use Rattle.merging.proofs.names.name_count.Goals as goal
-use Rattle.merging.proofs.names.name_count.Goals.{After-places_after-at}
+use Rattle.merging.proofs.lists.TwoLists.name_count.Goals as goal
+use Rattle.merging.proofs.lists.TwoLists.name_count.Goals.{After-places_after-at, At-loop-at}
+
+-- both have at most 65,535 bytes
+short : (c : At-loop-at) →
+    let args = c.args in
+    length args.self.first.now + length args.self.second.now ≤ longest_list + longest_list
+short c =
+    let (one, two) = c.requires in
+    omega (arith, (list-parts _ one).0, (list-parts _ two).0)
 
 -- one name more
 more : (c : After-places_after-at) →
     let args = c.args in
     let at = c.loop-at.at in
-    Taken args.first.now args.second.now at (next_bytes args.first.now args.second.now at) c.places_after-at.result
+    Taken args.self.first.now args.self.second.now at (next_bytes args.self.first.now args.self.second.now at) c.places_after-at.result
 more c =
     let lists = c.loop-at.invariant.0 in
     rw c.places_after-at.ensures (left-taken lists (omega (arith, c.loop-at-test.true, lists.first.inside, lists.second.inside)))
 
 pub loop-at-init : goal.loop-at-init
 loop-at-init c = let (one, two) = c.requires in (both-lists _ _ one two, omega arith, omega arith)
+
+pub overflow_add-at : goal.overflow_add-at
+overflow_add-at c = omega (arith, short (goal.at.overflow_add-at c).At-loop-at, c.loop-at.invariant.0.first.inside, c.loop-at.invariant.0.second.inside)
+
+pub overflow_add-self : goal.overflow_add-self
+overflow_add-self c = omega (arith, short (goal.at.overflow_add-self c).At-loop-at)
+
+pub overflow_add-n : goal.overflow_add-n
+overflow_add-n c =
+    omega (arith, short (goal.at.overflow_add-n c).At-loop-at, c.loop-at.invariant.2, c.loop-at.invariant.0.first.inside, c.loop-at.invariant.0.second.inside)
 
 pub loop-at-smaller : goal.loop-at-smaller
 loop-at-smaller c = (more c).less
