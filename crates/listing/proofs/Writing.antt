@@ -4,8 +4,8 @@ use Prim.Native.Nat.{ℕ, ◌+◌, ◌≤◌, ◌<◌}
 use native.Mathlib.Omega.{arith}
 use mathlib.Core.Path.{◌≡◌, ap, ◌∙◌}
 use mathlib.Core.List.{List, ◌++◌, append_assoc, append-nil}
-use lib.ListN.{length, take, set, length-append, length-drop}
-use Rattle.letters.specs.Letters.{letters, byte_of}
+use lib.ListN.{length, length-append, length-drop}
+use Rattle.letters.specs.Letters.{letters}
 use Rattle.sets.specs.Below.{total, over}
 use Rattle.sets.proofs.Below.{length_over, total-more, total-one}
 use Rattle.rows.specs.Table.{Table, target, ends}
@@ -16,7 +16,7 @@ use Rattle.rows.specs.Arcs.{Goes}
 use Rattle.rows.specs.declared.arcs.Arcs.{Arcs}
 use Rattle.rows.proofs.Facts.{no_row}
 use Rattle.rows.proofs.Words.{words-none}
-use Rattle.printing.proofs.Buffers.{Wrote, wrote-part, take_more, lent, back}
+use Rattle.printing.proofs.Buffers.{Wrote, wrote-part, lent, back}
 use Rattle.listing.specs.Lists.{lines_behind, line_here}
 use Rattle.listing.proofs.Behind.{arc_lines, row-lines, over_skip}
 
@@ -83,8 +83,3 @@ module _ {t : Table} {r : ℕ} {bytes before between after : List ℕ} {i k x : 
 
   pub all-written : NextArc t r x letters → Wrote k (lines_behind bytes (words t r)) before after
   all-written end = rw (row-lines t tidy r u bytes, skipped bytes end) (s.written _ before first)
-
--- the lines from a target, with its letter behind the letters walked
-pub walked_lines : (t : Table) (r x : ℕ) (word : List ℕ) (depth : ℕ) → depth < length word
-    → lines_behind (take (depth + 1) (set word depth (byte_of x))) (words t (target t r x)) ≡ arc_lines t r (take depth word) x
-walked_lines t r x word depth inside = rw (take_more depth word (byte_of x) inside)

@@ -3,6 +3,7 @@
 #![tactic(auto)]
 
 mod lists;
+mod prefix;
 mod sizes;
 mod word;
 

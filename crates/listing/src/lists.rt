@@ -1,5 +1,5 @@
 // A mission's list, written as bytes that load takes back.
-ghost use Rattle.std.specs.Prelude.{◌+◌, ◌≤◌, ◌<◌, ◌≡◌, length, take};
+ghost use Rattle.std.specs.Prelude.{◌+◌, ◌≤◌, ◌<◌, ◌≡◌, length};
 ghost use Rattle.letters.specs.Names.{longest};
 ghost use Rattle.letters.specs.Lists.{lines};
 ghost use Rattle.model.specs.Lists.{missions};
@@ -9,37 +9,39 @@ ghost use Rattle.rows.specs.Words.{words, names};
 ghost use Rattle.rows.specs.Tidy.{Used, Tidy};
 ghost use Rattle.listing.specs.Lists.{lines_behind, line_here};
 
-use letters::{LINE_END, LONGEST, byte_of};
+use super::prefix::Prefix;
+use letters::LINE_END;
 use printing::copy_front;
 use rows::{arcs_of, start};
 use walking::ends;
 
 // Writes the letters walked, and a line end, where a name may end at the row.
-fn write_line_here(t: &[u16], r: usize, word: [u8; LONGEST], depth: usize, out: &mut [u8]) -> usize
-    requires { (depth ≤ longest) × (length (line_here (ends t.now r) (take depth word)) ≤ length out.old) }
-    ensures long { result ≡ length (line_here (ends t.now r) (take depth word)) }
-    ensures buffer { out.new ≡ overlaid (line_here (ends t.now r) (take depth word)) out.old }
+fn write_line_here(t: &[u16], r: usize, word: &Prefix, out: &mut [u8]) -> usize
+    requires { length (line_here (ends t.now r) word.now) ≤ length out.old }
+    ensures long { result ≡ length (line_here (ends t.now r) word.now) }
+    ensures buffer { out.new ≡ overlaid (line_here (ends t.now r) word.now) out.old }
 {
     if !ends(t, r) {
         return 0;
     }
-    copy_front(&word, depth, out);
+    let letters = word.bytes();
+    let depth = letters.len();
+    copy_front(letters, depth, out);
     out[depth] = LINE_END;
     depth + 1
 }
 
 // Writes the words from a row, each behind the letters walked and followed by 0x0A, and says how many
 // bytes they are. The words of each arc's target are written to the rest of the buffer, which is lent on.
-fn write_from(t: &[u16], r: usize, word: [u8; LONGEST], depth: usize, out: &mut [u8]) -> usize
-    requires { Tidy t.now × Used t.now r × (depth + height t.now r ≤ longest) × (length (lines_behind (take depth word) (words t.now r)) ≤ length out.old) }
-    ensures long { result ≡ length (lines_behind (take depth word) (words t.now r)) }
-    ensures buffer { out.new ≡ overlaid (lines_behind (take depth word) (words t.now r)) out.old }
+fn write_from(t: &[u16], r: usize, word: &Prefix, out: &mut [u8]) -> usize
+    requires { Tidy t.now × Used t.now r × (length word.now + height t.now r ≤ longest) × (length (lines_behind word.now (words t.now r)) ≤ length out.old) }
+    ensures long { result ≡ length (lines_behind word.now (words t.now r)) }
+    ensures buffer { out.new ≡ overlaid (lines_behind word.now (words t.now r)) out.old }
 {
-    let mut bytes = write_line_here(t, r, word, depth, out);
+    let mut bytes = write_line_here(t, r, word, out);
     for (x, s) in arcs_of(t, r) {
-        let mut longer = word;
-        longer[depth] = byte_of(x);
-        bytes += write_from(t, s, longer, depth + 1, &mut out[bytes..]);
+        let longer = word.with(x);
+        bytes += write_from(t, s, &longer, &mut out[bytes..]);
     }
     bytes
 }
@@ -54,6 +56,6 @@ pub fn write_list(t: &[u16], m: usize, out: &mut [u8]) -> usize
     if r == 0 {
         return 0;
     }
-    let word = [0u8; LONGEST];
-    write_from(t, r, word, 0, out)
+    let word = Prefix::none();
+    write_from(t, r, &word, out)
 }

@@ -1,8 +1,7 @@
-use Prim.Native.Nat.{ℕ, ◌+◌, ◌≤◌, ◌<◌}
+use Prim.Native.Nat.{ℕ, ◌+◌, ◌≤◌}
 use native.Mathlib.Omega.{arith}
 use mathlib.Core.Path.{◌≡◌}
-use borrow.Author.Rules.{rules}
-use lib.ListN.{length, take}
+use lib.ListN.{length, length-append}
 use Rattle.rows.specs.Table.{ends}
 use Rattle.rows.specs.Tidy.{Arc}
 use Rattle.rows.specs.Arcs.{Goes}
@@ -11,7 +10,7 @@ use Rattle.rows.proofs.Stepping.{goes, gone}
 use Rattle.printing.proofs.Buffers.{Wrote, overlaid-wrote, lent, length-lent}
 use Rattle.listing.specs.Lists.{line_here}
 use Rattle.listing.proofs.Behind.{arc_lines}
-use Rattle.listing.proofs.Writing.{none_yet, one_more, here-fits, next_fits, same_size, all-written, walked_lines}
+use Rattle.listing.proofs.Writing.{none_yet, one_more, here-fits, next_fits, same_size, all-written}
 use Rattle.listing.proofs.lists.+write_from.Goals as goal
 use Rattle.listing.proofs.lists.+write_from.Goals.{After-write_from-bytes, At-loop-x, In-Some}
 
@@ -19,7 +18,7 @@ pub write_line_here-bytes-requires : goal.write_line_here-bytes-requires
 write_line_here-bytes-requires bound c =
     let (tidy, used, deep, room) = c.requires in
     let args = c.args in
-    (omega arith, omega (arith, here-fits args.t.now tidy args.r used (take args.depth args.word)))
+    omega (arith, here-fits args.t.now tidy args.r used args.word.now)
 
 pub loop-x-init : goal.loop-x-init
 loop-x-init bound c =
@@ -30,7 +29,7 @@ loop-x-init bound c =
 first : (bound : ℕ) → (l : At-loop-x bound) →
     let args = l.args in
     let called = l.write_line_here-bytes in
-    Wrote called.result (line_here (ends args.t.now args.r) (take args.depth args.word)) args.out.now called.new.out
+    Wrote called.result (line_here (ends args.t.now args.r) args.word.now) args.out.now called.new.out
 first bound l = overlaid-wrote _ _ (l.write_line_here-bytes.ensures.long, l.write_line_here-bytes.ensures.buffer)
 
 same : (bound : ℕ) → (l : At-loop-x bound) → length l.loop-x.out ≡ length l.args.out.now
@@ -41,20 +40,14 @@ same bound l =
 one : (bound : ℕ) → (c : In-Some bound) → Goes c.args.t.now c.args.r c.loop-x.x-iterator c.next.new.self c.in-Some.x c.in-Some.s
 one bound c = goes c.loop-x.invariant.0 c.in-Some.ensures.steps
 
--- the letters walked are inside the word, and the lines from the target fit
+-- there is an arc, and the lines from its target fit
 arc : (bound : ℕ) → (c : In-Some bound) → Arc c.args.t.now c.args.r c.in-Some.x
 arc bound c =
     let a = one bound c in
     record { used = c.requires.1; letter = a.inside; there = a.next.stops a.inside }
 
-lower : (bound : ℕ) → (c : In-Some bound) → c.args.depth < length c.args.word
-lower bound c =
-    let (tidy, used, deep, room) = c.requires in
-    let less = tidy.lower _ _ (arc bound c) in
-    search rules
-
 fits : (bound : ℕ) → (c : In-Some bound) → let args = c.args in
-    c.loop-x.bytes + length (arc_lines args.t.now args.r (take args.depth args.word) c.in-Some.x) ≤ length c.loop-x.out
+    c.loop-x.bytes + length (arc_lines args.t.now args.r args.word.now c.in-Some.x) ≤ length c.loop-x.out
 fits bound c =
     let (tidy, used, deep, room) = c.requires in
     let l = (goal.at.In-Some bound c).At-loop-x in
@@ -67,14 +60,13 @@ write_from-bytes-requires bound c =
     let (tidy, used, deep, room) = c.requires in
     let place = (goal.at.write_from-bytes-requires bound c).In-Some in
     let a = one bound place in
-    let lines = walked_lines args.t.now args.r c.in-Some.x args.word args.depth (lower bound place) in
-    rw (a.to, c.byte_of.ensures) (
+    rw (a.to, c.with-longer.ensures) (
       omega (arith, target_below args.t.now tidy args.r c.in-Some.x used a.inside, c.decreases),
       (
         tidy,
         tidy.targets _ _ (arc bound place),
-        omega (arith, tidy.lower _ _ (arc bound place)),
-        rw lines (omega (arith, fits bound place, length-lent c.loop-x.bytes c.loop-x.out)),
+        simp length-append (omega (arith, tidy.lower _ _ (arc bound place))),
+        omega (arith, fits bound place, length-lent c.loop-x.bytes c.loop-x.out),
       ),
     )
 
@@ -83,11 +75,10 @@ loop-x-preserved bound c =
     let args = c.args in
     let place = (goal.at.loop-x-preserved bound c).In-Some in
     let a = one bound place in
-    let lines = walked_lines args.t.now args.r c.in-Some.x args.word args.depth (lower bound place) in
     let called = c.write_from-bytes.ensures in
-    let wrote : Wrote c.write_from-bytes.result (arc_lines args.t.now args.r (take args.depth args.word) c.in-Some.x) (lent c.loop-x.bytes c.loop-x.out)
+    let wrote : Wrote c.write_from-bytes.result (arc_lines args.t.now args.r args.word.now c.in-Some.x) (lent c.loop-x.bytes c.loop-x.out)
     c.write_from-bytes.new.out =
-    overlaid-wrote _ _ (rw (a.to, c.byte_of.ensures, lines) at called.long, rw (a.to, c.byte_of.ensures, lines) at called.buffer) in
+    overlaid-wrote _ _ (rw (a.to, c.with-longer.ensures) at called.long, rw (a.to, c.with-longer.ensures) at called.buffer) in
     (a.still, one_more c.loop-x.invariant.1 a wrote)
 
 pub returns : goal.returns

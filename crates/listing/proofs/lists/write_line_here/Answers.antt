@@ -2,9 +2,8 @@
 -- written behind them. Assumes nothing.
 use native.Mathlib.Omega.{arith}
 use mathlib.Core.Path.{sym, ◌∙◌}
-use borrow.Author.Rules.{rules}
-use lib.ListN.{take, length-append}
-use lib.Seq.{length-take-le}
+use lib.ListN.{length, length-append}
+use lib.Seq.{take_all}
 use Rattle.letters.specs.Letters.{line_end}
 use Rattle.printing.proofs.Buffers.{overlaid-wrote, wrote-byte}
 use Rattle.listing.proofs.lists.write_line_here.Goals as goal
@@ -13,7 +12,8 @@ pub returns : goal.returns
 returns c =
     let args = c.args in
     let here = sym c.ends.ensures ∙ c.if-not-ends.false in
-    let long = length-take-le args.depth args.word (search rules) in
-    let copied = overlaid-wrote (take args.depth args.word) args.out.now (sym long, c.copy_front.ensures) in
-    let all = wrote-byte line_end copied (omega (arith, long, simp length-append at (rw here at c.requires.1))) in
+    let word = args.word.now in
+    let all_of = take_all (length word) word (omega arith) in
+    let copied = overlaid-wrote word args.out.now (rw c.bytes-letters.ensures, rw (c.bytes-letters.ensures, all_of) at c.copy_front.ensures) in
+    let all = wrote-byte line_end copied (omega (arith, simp length-append at (rw here at c.requires))) in
     rw here (record { long = all.long; buffer = all.buffer })

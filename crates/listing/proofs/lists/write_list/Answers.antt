@@ -22,8 +22,8 @@ pub write_from-requires : goal.write_from-requires
 write_from-requires c =
     let (tidy, mission, room) = c.requires in
     let used = start-named c.args.t.now tidy c.args.m mission (omega (arith, c.start-r.ensures)) in
-    rw c.start-r.ensures (tidy, used, omega (arith, tidy.low _ used), rw behind-none room)
+    rw (c.start-r.ensures, c.none-word.ensures) (tidy, used, omega (arith, tidy.low _ used), rw behind-none room)
 
 pub returns : goal.returns
 returns c =
-    record { long = (rw (c.start-r.ensures, behind-none) at c.write_from.ensures.long); buffer = (rw (c.start-r.ensures, behind-none) at c.write_from.ensures.buffer) }
+    record { long = (rw (c.start-r.ensures, c.none-word.ensures, behind-none) at c.write_from.ensures.long); buffer = (rw (c.start-r.ensures, c.none-word.ensures, behind-none) at c.write_from.ensures.buffer) }
