@@ -30,16 +30,6 @@ more c =
 pub loop-at-init : goal.loop-at-init
 loop-at-init c = let (one, two) = c.requires in (both-lists _ _ one two, omega arith, omega arith)
 
-pub overflow_add-at : goal.overflow_add-at
-overflow_add-at c = omega (arith, short (goal.at.overflow_add-at c).At-loop-at, c.loop-at.invariant.0.first.inside, c.loop-at.invariant.0.second.inside)
-
-pub overflow_add-self : goal.overflow_add-self
-overflow_add-self c = omega (arith, short (goal.at.overflow_add-self c).At-loop-at)
-
-pub overflow_add-n : goal.overflow_add-n
-overflow_add-n c =
-    omega (arith, short (goal.at.overflow_add-n c).At-loop-at, c.loop-at.invariant.2, c.loop-at.invariant.0.first.inside, c.loop-at.invariant.0.second.inside)
-
 pub loop-at-smaller : goal.loop-at-smaller
 loop-at-smaller c = (more c).less
 

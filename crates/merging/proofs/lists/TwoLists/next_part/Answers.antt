@@ -1,7 +1,7 @@
 -- `next_part` meets its promise: it hands over the part that whose turn it is asks for, and where it is someone's turn, his list has a name left.
 -- Assumes nothing.
 use native.Mathlib.Nat.{le_of_lt}
-use mathlib.Core.Path.{refl, sym, ◌∙◌}
+use mathlib.Core.Path.{sym, ◌∙◌}
 use mathlib.Core.Logic.{inl, inr}
 use Rattle.merging.specs.declared.places.Turn.TheVariants.{First, Second, Both}
 use Rattle.merging.proofs.Turns.{left_by}
@@ -18,6 +18,3 @@ pub returns-in-Second : goal.returns-in-Second
 returns-in-Second c =
     let turn = sym c.whose_turn.ensures ∙ c.in-Second.is in
     rw turn (c.name_at-in-Second.ensures.part (le_of_lt (left_by _ _ _ Second turn).0))
-
-pub returns-in-Neither : goal.returns-in-Neither
-returns-in-Neither c = rw (sym c.whose_turn.ensures ∙ c.in-Neither.is) refl

@@ -2,7 +2,7 @@
 -- Assumes nothing.
 use Prim.Native.Nat.{ℕ, ◌≤◌, ◌<◌}
 use native.Mathlib.Nat.{le_of_lt}
-use mathlib.Core.Path.{◌≡◌, refl, sym, ◌∙◌}
+use mathlib.Core.Path.{◌≡◌, sym, ◌∙◌}
 use mathlib.Core.List.{List}
 use borrow.Author.Rules.{rules}
 use lib.ListN.{length}
@@ -39,17 +39,3 @@ overflow_add-result-in-Second c =
     let some = (left_by _ _ _ Second (sym c.whose_turn.ensures ∙ c.in-Second.is)).0 in
     let ends = inside _ _ _ c.name_end-in-Second.ensures some in
     search rules
-
-pub returns-in-First : goal.returns-in-First
-returns-in-First c = rw (sym c.whose_turn.ensures ∙ c.in-First.is, c.name_end.ensures)
-
-pub returns-in-Both : goal.returns-in-Both
-returns-in-Both c =
-    let turn = sym c.whose_turn.ensures ∙ c.in-Both.is in
-    rw (turn, c.name_end-in-Both.ensures, c.name_end-in-Both-2.ensures)
-
-pub returns-in-Second : goal.returns-in-Second
-returns-in-Second c = rw (sym c.whose_turn.ensures ∙ c.in-Second.is, c.name_end-in-Second.ensures)
-
-pub returns-in-Neither : goal.returns-in-Neither
-returns-in-Neither c = rw (sym c.whose_turn.ensures ∙ c.in-Neither.is) refl
