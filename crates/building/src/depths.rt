@@ -48,10 +48,10 @@ fn depth_of(name: &[u8], next: &[u8]) -> usize
 }
 
 // Where a group goes on: the first name may be the group's letters alone, and is then passed.
-pub fn first_ahead(lists: TwoLists<'_>, at: Places, name: &[u8], depth: usize) -> Ahead
-    requires { Begins lists.first.now lists.second.now at name.now depth }
-    ensures places { result.places ≡ first_places lists.entry.first.now lists.entry.second.now at name.now depth }
-    ensures deep { Deep lists.entry.first.now lists.entry.second.now (opening name.now depth) result }
+pub fn first_ahead(lists: &TwoLists<'_>, at: Places, name: &[u8], depth: usize) -> Ahead
+    requires { Begins lists.now.first.now lists.now.second.now at name.now depth }
+    ensures places { result.places ≡ first_places lists.now.first.now lists.now.second.now at name.now depth }
+    ensures deep { Deep lists.now.first.now lists.now.second.now (opening name.now depth) result }
 {
     if depth < name.len() {
         return Ahead {
@@ -66,9 +66,9 @@ pub fn first_ahead(lists: TwoLists<'_>, at: Places, name: &[u8], depth: usize) -
 
 // The next name at some places. The one at `at` is held already: it is not looked for again at each of its
 // letters.
-pub fn next_at<'a>(lists: TwoLists<'a>, at: Places, name: &'a [u8], places: Places) -> &'a [u8]
-    requires { name.now ≡ next_bytes lists.first.now lists.second.now at }
-    ensures { result.now ≡ next_bytes lists.entry.first.now lists.entry.second.now places }
+pub fn next_at<'a>(lists: &TwoLists<'a>, at: Places, name: &'a [u8], places: Places) -> &'a [u8]
+    requires { name.now ≡ next_bytes lists.now.first.now lists.now.second.now at }
+    ensures { result.now ≡ next_bytes lists.now.first.now lists.now.second.now places }
 {
     if places == at {
         return name;

@@ -26,13 +26,13 @@ pub struct Group {
 fn build<'a>(
     t: &mut [u16],
     index: &mut [u16],
-    lists: TwoLists<'a>,
+    lists: &TwoLists<'a>,
     at: Places,
     name: &'a [u8],
     depth: usize,
 ) -> Result<Group, Full>
-    requires { Tidy t.old × Indexed t.old index.old × Begins lists.first.now lists.second.now at name.now depth }
-    ensures builds { Builds t.old t.new lists.entry.first.now lists.entry.second.now at name.now depth result }
+    requires { Tidy t.old × Indexed t.old index.old × Begins lists.now.first.now lists.now.second.now at name.now depth }
+    ensures builds { Builds t.old t.new lists.now.first.now lists.now.second.now at name.now depth result }
     ensures indexed { Indexed t.new index.new }
 {
     let mut ahead = first_ahead(lists, at, name, depth);
@@ -51,9 +51,9 @@ fn build<'a>(
 }
 
 // The row for the names of two lists, each once. "No bytes is the empty list."
-pub fn build_lists(t: &mut [u16], index: &mut [u16], lists: TwoLists<'_>) -> Result<u16, Full>
-    requires { Tidy t.old × Indexed t.old index.old × (is_list lists.first.now ≡ true) × (is_list lists.second.now ≡ true) }
-    ensures makes { Makes (row_count t.old) t.old t.new (both (names_of lists.entry.first.now) (names_of lists.entry.second.now)) result }
+pub fn build_lists(t: &mut [u16], index: &mut [u16], lists: &TwoLists<'_>) -> Result<u16, Full>
+    requires { Tidy t.old × Indexed t.old index.old × (is_list lists.now.first.now ≡ true) × (is_list lists.now.second.now ≡ true) }
+    ensures makes { Makes (row_count t.old) t.old t.new (both (names_of lists.now.first.now) (names_of lists.now.second.now)) result }
     ensures indexed { Indexed t.new index.new }
 {
     let at = Places {

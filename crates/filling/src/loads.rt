@@ -22,9 +22,9 @@ use rows::start;
 use settling::settle;
 
 // On a sound book, two lists for a mission that has none.
-fn fill_lists(t: &mut [u16], index: &mut [u16], m: usize, lists: TwoLists<'_>) -> Answer
-    requires { Loadable t.old m lists.first.now lists.second.now × Indexed t.old index.old × (start t.old m ≡ 0) }
-    ensures { Changes t.old t.new (load_two m lists.entry.first.now lists.entry.second.now) (answer_reply result) }
+fn fill_lists(t: &mut [u16], index: &mut [u16], m: usize, lists: &TwoLists<'_>) -> Answer
+    requires { Loadable t.old m lists.now.first.now lists.now.second.now × Indexed t.old index.old × (start t.old m ≡ 0) }
+    ensures { Changes t.old t.new (load_two m lists.now.first.now lists.now.second.now) (answer_reply result) }
 {
     let names = lists.name_count() as u32;
     match build_lists(t, index, lists) {
@@ -34,9 +34,9 @@ fn fill_lists(t: &mut [u16], index: &mut [u16], m: usize, lists: TwoLists<'_>) -
 }
 
 // On a sound book: refusal 8, and the rest.
-fn load_lists(t: &mut [u16], index: &mut [u16], m: usize, lists: TwoLists<'_>) -> Answer
-    requires { Loadable t.old m lists.first.now lists.second.now × Indexed t.old index.old }
-    ensures { Changes t.old t.new (load_two m lists.entry.first.now lists.entry.second.now) (answer_reply result) }
+fn load_lists(t: &mut [u16], index: &mut [u16], m: usize, lists: &TwoLists<'_>) -> Answer
+    requires { Loadable t.old m lists.now.first.now lists.now.second.now × Indexed t.old index.old }
+    ensures { Changes t.old t.new (load_two m lists.now.first.now lists.now.second.now) (answer_reply result) }
 {
     if start(t, m) != 0 {
         return Err(Refusal::NotEmpty);
@@ -45,8 +45,8 @@ fn load_lists(t: &mut [u16], index: &mut [u16], m: usize, lists: TwoLists<'_>) -
 }
 
 // "5 if either is no list".
-fn are_lists(lists: TwoLists<'_>) -> bool
-    ensures { result ≡ (is_list lists.entry.first.now && is_list lists.entry.second.now) }
+fn are_lists(lists: &TwoLists<'_>) -> bool
+    ensures { result ≡ (is_list lists.now.first.now && is_list lists.now.second.now) }
 {
     is_list(lists.first) && is_list(lists.second)
 }
@@ -56,9 +56,9 @@ pub fn load_two<'a>(t: &mut [u16], m: u32, first: &'a [u8], second: &'a [u8]) ->
 {
     let mut index = [0u16; INDEX];
     let lists = TwoLists { first, second };
-    let listed = if_fine(are_lists(lists), Refusal::List);
+    let listed = if_fine(are_lists(&lists), Refusal::List);
     admit_indexed(t, m, listed, &mut index)?;
-    load_lists(t, &mut index, m as usize, lists)
+    load_lists(t, &mut index, m as usize, &lists)
 }
 
 pub fn load(t: &mut [u16], m: u32, list: &[u8]) -> Answer

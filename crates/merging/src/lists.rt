@@ -15,8 +15,8 @@ pub struct TwoLists<'a> {
 
 impl<'a> TwoLists<'a> {
     // "The next name of the two is the smaller".
-    pub fn whose_turn(self, at: Places) -> Turn
-        ensures { result ≡ turn_of self.entry.first.now self.entry.second.now at }
+    pub fn whose_turn(&self, at: Places) -> Turn
+        ensures { result ≡ turn_of self.now.first.now self.now.second.now at }
     {
         let i = at.first;
         let j = at.second;
@@ -37,8 +37,8 @@ impl<'a> TwoLists<'a> {
     }
 
     // The places behind the next name: "on a tie it is the first list's and both move on".
-    pub fn places_after(self, at: Places) -> Places
-        ensures { result ≡ places_after self.entry.first.now self.entry.second.now at }
+    pub fn places_after(&self, at: Places) -> Places
+        ensures { result ≡ places_after self.now.first.now self.now.second.now at }
     {
         let i = at.first;
         let j = at.second;

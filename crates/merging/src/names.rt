@@ -11,8 +11,8 @@ use letters::{is_list, name_at};
 impl<'a> TwoLists<'a> {
     // The next name of two lists, as the part of whichever list it stands in; an empty part at the end
     // of both.
-    pub fn next_part(self, at: Places) -> &'a [u8]
-        ensures { NextPart self.entry.first self.entry.second at result }
+    pub fn next_part(&self, at: Places) -> &'a [u8]
+        ensures { NextPart self.now.first self.now.second at result }
     {
         let i = at.first;
         let j = at.second;
@@ -25,8 +25,8 @@ impl<'a> TwoLists<'a> {
 
     // The same of any bytes: an empty part also if either is no list. It tests both lists each time, so
     // whoever takes name after name tests them once, and then takes next_part.
-    pub fn next_name(self, at: Places) -> &'a [u8]
-        ensures { NextName self.entry.first self.entry.second at result }
+    pub fn next_name(&self, at: Places) -> &'a [u8]
+        ensures { NextName self.now.first self.now.second at result }
     {
         if !is_list(self.first) {
             return &self.first[0..0];
@@ -38,9 +38,9 @@ impl<'a> TwoLists<'a> {
     }
 
     // "the number of different names".
-    pub fn name_count(self) -> usize
-        requires { (is_list self.first.now ≡ true) × (is_list self.second.now ≡ true) }
-        ensures { result ≡ length (both (names_of self.entry.first.now) (names_of self.entry.second.now)) }
+    pub fn name_count(&self) -> usize
+        requires { (is_list self.now.first.now ≡ true) × (is_list self.now.second.now ≡ true) }
+        ensures { result ≡ length (both (names_of self.now.first.now) (names_of self.now.second.now)) }
     {
         let mut at = Places {
             first: 0,

@@ -15,7 +15,7 @@ returns-then-depth-name-clause-deep c = omega (arith, first-deep c.requires)
 pub returns-clause-deep : goal.returns-clause-deep
 returns-clause-deep c =
     let args = c.args in
-    let bytes = next-bytes args.lists.first args.lists.second c.places_after-places.result c.next_part.result c.next_part.ensures in
-    let lists : Lists args.lists.first.now args.lists.second.now c.places_after-places.result =
+    let bytes = next-bytes args.lists.now.first args.lists.now.second c.places_after-places.result c.next_part.result c.next_part.ensures in
+    let lists : Lists args.lists.now.first.now args.lists.now.second.now c.places_after-places.result =
     rw c.places_after-places.ensures (first_taken c.requires).lists in
     rw (opening-all args.name.now args.depth (omega arith)) (c.depth_of-deep.ensures ∙ rw bytes (next-deep (word_of args.name.now) lists))

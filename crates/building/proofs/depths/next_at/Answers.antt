@@ -5,4 +5,4 @@ use Rattle.building.proofs.depths.next_at.Goals as goal
 pub returns : goal.returns
 returns c =
     let args = c.args in
-    next-bytes args.lists.first args.lists.second args.places c.next_part.result c.next_part.ensures
+    next-bytes args.lists.now.first args.lists.now.second args.places c.next_part.result c.next_part.ensures

@@ -23,7 +23,7 @@ inside bound c =
 
 next-group : (bound : ℕ) → (c : After-next_at-next bound) →
     let args = c.args in
-    Begins args.lists.first.now args.lists.second.now c.loop-ahead.ahead.places c.next_at-next.result.now (args.depth + 1)
+    Begins args.lists.now.first.now args.lists.now.second.now c.loop-ahead.ahead.places c.next_at-next.result.now (args.depth + 1)
 next-group bound c =
     next-begins c.requires.2 c.loop-ahead.invariant.0 c.loop-ahead-test.true _ c.next_at-next.ensures
 

@@ -7,11 +7,11 @@ use Rattle.building.proofs.Building.{none-built}
 use Rattle.building.proofs.groups.build_lists.Goals as goal
 use Rattle.building.proofs.groups.build_lists.Goals.{After-next_part-name}
 
-lists : (c : After-next_part-name) → let args = c.args in Lists args.lists.first.now args.lists.second.now fronts
+lists : (c : After-next_part-name) → let args = c.args in Lists args.lists.now.first.now args.lists.now.second.now fronts
 lists c = both-lists _ _ c.requires.2 c.requires.3
 
-bytes : (c : After-next_part-name) → let args = c.args in c.next_part-name.result.now ≡ next_bytes args.lists.first.now args.lists.second.now fronts
-bytes c = next-bytes c.args.lists.first c.args.lists.second fronts c.next_part-name.result c.next_part-name.ensures
+bytes : (c : After-next_part-name) → let args = c.args in c.next_part-name.result.now ≡ next_bytes args.lists.now.first.now args.lists.now.second.now fronts
+bytes c = next-bytes c.args.lists.now.first c.args.lists.now.second fronts c.next_part-name.result c.next_part-name.ensures
 
 pub returns-then-name-eq0-clause-makes : goal.returns-then-name-eq0-clause-makes
 returns-then-name-eq0-clause-makes c =

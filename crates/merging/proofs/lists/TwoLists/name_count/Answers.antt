@@ -13,7 +13,7 @@ use Rattle.merging.proofs.lists.TwoLists.name_count.Goals.{After-places_after-at
 -- both have at most 65,535 bytes
 short : (c : At-loop-at) →
     let args = c.args in
-    length args.self.first.now + length args.self.second.now ≤ longest_list + longest_list
+    length args.self.now.first.now + length args.self.now.second.now ≤ longest_list + longest_list
 short c =
     let (one, two) = c.requires in
     omega (arith, (list-parts _ one).0, (list-parts _ two).0)
@@ -22,7 +22,7 @@ short c =
 more : (c : After-places_after-at) →
     let args = c.args in
     let at = c.loop-at.at in
-    Taken args.self.first.now args.self.second.now at (next_bytes args.self.first.now args.self.second.now at) c.places_after-at.result
+    Taken args.self.now.first.now args.self.now.second.now at (next_bytes args.self.now.first.now args.self.now.second.now at) c.places_after-at.result
 more c =
     let lists = c.loop-at.invariant.0 in
     rw c.places_after-at.ensures (left-taken lists (omega (arith, c.loop-at-test.true, lists.first.inside, lists.second.inside)))

@@ -10,7 +10,7 @@ use Rattle.merging.proofs.lists.TwoLists.whose_turn.Goals.{After-order_of}
 -- the order of the two names decides
 decided : (c : After-order_of) (r : Ordering) → c.order_of.result ≡ r
     → let args = c.args in
-    answer r ≡ turn_of args.self.first.now args.self.second.now args.at
+    answer r ≡ turn_of args.self.now.first.now args.self.now.second.now args.at
 decided c r e =
     turn-answer _ _ _ r _ _ (sym e ∙ c.order_of.ensures) c.name_at.ensures.bytes c.name_at-2.ensures.bytes
     c.if-self-i.false c.if-self-j-2.false
