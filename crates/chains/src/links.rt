@@ -1,5 +1,5 @@
 // The array of chains: number `kind` is the last row of that kind, and number `kinds + r` the row before r
-// of r's kind; 0 for none.
+// of r's kind; 0 for none. What is read is the array's own number, and so no Option.
 ghost use Rattle.std.specs.Prelude.{◌+◌, ◌<◌, ◌≡◌, length, get_or};
 ghost use Rattle.rows.specs.Table.{most_rows};
 ghost use Rattle.chains.specs.Chains.{linked};

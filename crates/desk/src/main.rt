@@ -17,6 +17,7 @@ fn read_full<R: Read>(from: &mut R, buffer: &mut [u8]) -> io::Result<usize>
     ensures end { IfOk result (λ n. n < length buffer.new → IsAtEnd (R.remaining from.new)) }
 {
     let mut long = 0;
+    // A while: it goes on by as many bytes as each read brings.
     while long < buffer.len() {
         let more = from.read(&mut buffer[long..])?;
         if more == 0 {
@@ -36,6 +37,7 @@ fn run<R: Read, W: Write>(from: &mut R, to: &mut W) -> io::Result<()>
     let mut t = [0u16; NUMBERS];
     let mut out = [0u8; OUT];
     let mut place = beginning();
+    // A while: each step says where the program then stands.
     while !place.over {
         place = step(&mut t, &input[..long], place, &mut out);
         let bytes = place.bytes;
