@@ -39,12 +39,12 @@ impl Prefix {
         requires { length self.now < longest }
         ensures { result ≡ self.now ++ byte_of x ∷ [] }
     {
-        let mut letters = self.letters;
-        letters[self.depth] = byte_of(x);
-        Prefix {
-            letters,
+        let mut longer = Prefix {
+            letters: self.letters,
             depth: self.depth + 1,
-        }
+        };
+        longer.letters[self.depth] = byte_of(x);
+        longer
     }
 
     pub fn bytes(&self) -> &[u8]
