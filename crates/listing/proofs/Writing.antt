@@ -1,10 +1,11 @@
 -- What is written of a row's lines: the letters walked as a line, where a name may end at the row, and behind it letter by letter the lines from the
 -- targets, each to the rest of the buffer. The whole fits, and so does each part behind those before it. Assumes nothing.
-use Prim.Native.Nat.{ℕ, ◌+◌, ◌≤◌, ◌<◌}
+use Prim.Native.Nat.{ℕ, ◌+◌, ◌-◌, ◌≤◌, ◌<◌}
 use native.Mathlib.Omega.{arith}
 use mathlib.Core.Path.{◌≡◌, ap, ◌∙◌}
-use mathlib.Core.List.{List, ◌++◌, append_assoc, append-nil}
-use lib.ListN.{length, length-append, length-drop}
+use mathlib.Core.List.{List, [], ◌∷◌, ◌++◌, append_assoc, append-nil}
+use lib.ListN.{length, take, length-append, length-drop}
+use lib.Seq.{take_at}
 use Rattle.letters.specs.Letters.{letters}
 use Rattle.sets.specs.Below.{total, over}
 use Rattle.sets.proofs.Below.{length_over, total-more, total-one}
@@ -83,3 +84,7 @@ module _ {t : Table} {r : ℕ} {bytes before between after : List ℕ} {i k x : 
 
   pub all-written : NextArc t r x letters → Wrote k (lines_behind bytes (words t r)) before after
   all-written end = rw (row-lines t tidy r u bytes, skipped bytes end) (s.written _ before first)
+
+-- a letter that is walked and left again leaves the letters as they were
+pub popped : (word : List ℕ) (b : ℕ) → take (length (word ++ b ∷ []) - 1) (word ++ b ∷ []) ≡ word
+popped word b = take_at word (b ∷ []) _ (simp length-append (omega arith))

@@ -32,16 +32,19 @@ fn write_line_here(t: &[u16], r: usize, word: &Prefix, out: &mut [u8]) -> usize
 }
 
 // Writes the words from a row, each behind the letters walked and followed by 0x0A, and says how many
-// bytes they are. The words of each arc's target are written to the rest of the buffer, which is lent on.
-fn write_from(t: &[u16], r: usize, word: &Prefix, out: &mut [u8]) -> usize
-    requires { Tidy t.now × Used t.now r × (length word.now + height t.now r ≤ longest) × (length (lines_behind word.now (words t.now r)) ≤ length out.old) }
-    ensures long { result ≡ length (lines_behind word.now (words t.now r)) }
-    ensures buffer { out.new ≡ overlaid (lines_behind word.now (words t.now r)) out.old }
+// bytes they are. The words of each arc's target are written to the rest of the buffer, which is lent on. The arc's
+// letter is put behind the letters walked and taken off again, so that they are not copied for each arc.
+fn write_from(t: &[u16], r: usize, word: &mut Prefix, out: &mut [u8]) -> usize
+    requires { Tidy t.now × Used t.now r × (length word.old + height t.now r ≤ longest) × (length (lines_behind word.old (words t.now r)) ≤ length out.old) }
+    ensures word { word.new ≡ word.old }
+    ensures long { result ≡ length (lines_behind word.old (words t.now r)) }
+    ensures buffer { out.new ≡ overlaid (lines_behind word.old (words t.now r)) out.old }
 {
     let mut bytes = write_line_here(t, r, word, out);
     for (x, s) in arcs_of(t, r) {
-        let longer = word.with(x);
-        bytes += write_from(t, s, &longer, &mut out[bytes..]);
+        word.push(x);
+        bytes += write_from(t, s, word, &mut out[bytes..]);
+        word.pop();
     }
     bytes
 }
@@ -56,6 +59,6 @@ pub fn write_list(t: &[u16], m: usize, out: &mut [u8]) -> usize
     if r == 0 {
         return 0;
     }
-    let word = Prefix::none();
-    write_from(t, r, &word, out)
+    let mut word = Prefix::none();
+    write_from(t, r, &mut word, out)
 }

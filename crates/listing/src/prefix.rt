@@ -1,5 +1,5 @@
 // The letters walked from a start, as the bytes that they are written by.
-ghost use Rattle.std.specs.Prelude.{◌<◌, ◌≡◌, [], ◌∷◌, ◌++◌, length};
+ghost use Rattle.std.specs.Prelude.{◌-◌, ◌<◌, ◌≡◌, [], ◌∷◌, ◌++◌, length, take};
 ghost use Rattle.letters.specs.Letters.{byte_of};
 ghost use Rattle.letters.specs.Names.{longest};
 
@@ -34,17 +34,21 @@ impl Prefix {
         }
     }
 
-    // The prefix with one letter more.
-    pub fn with(&self, x: usize) -> Prefix
-        requires { length self.now < longest }
-        ensures { result ≡ self.now ++ byte_of x ∷ [] }
+    // One letter more.
+    pub fn push(&mut self, x: usize)
+        requires { length self.old < longest }
+        ensures { self.new ≡ self.old ++ byte_of x ∷ [] }
     {
-        let mut letters = self.letters;
-        letters[self.depth] = byte_of(x);
-        Prefix {
-            letters,
-            depth: self.depth + 1,
-        }
+        self.letters[self.depth] = byte_of(x);
+        self.depth += 1;
+    }
+
+    // One letter less.
+    pub fn pop(&mut self)
+        requires { 0 < length self.old }
+        ensures { self.new ≡ take (length self.old - 1) self.old }
+    {
+        self.depth -= 1;
     }
 
     pub fn bytes(&self) -> &[u8]

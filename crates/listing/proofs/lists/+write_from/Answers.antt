@@ -1,6 +1,6 @@
 use Prim.Native.Nat.{ℕ, ◌+◌, ◌≤◌}
 use native.Mathlib.Omega.{arith}
-use mathlib.Core.Path.{◌≡◌}
+use mathlib.Core.Path.{◌≡◌, refl}
 use lib.ListN.{length, length-append}
 use Rattle.rows.specs.Table.{ends}
 use Rattle.rows.specs.Tidy.{Arc}
@@ -10,7 +10,7 @@ use Rattle.rows.proofs.Stepping.{goes, gone}
 use Rattle.printing.proofs.Buffers.{Wrote, overlaid-wrote, lent, length-lent}
 use Rattle.listing.specs.Lists.{line_here}
 use Rattle.listing.proofs.Behind.{arc_lines}
-use Rattle.listing.proofs.Writing.{none_yet, one_more, here-fits, next_fits, same_size, all-written}
+use Rattle.listing.proofs.Writing.{none_yet, one_more, here-fits, next_fits, same_size, all-written, popped}
 use Rattle.listing.proofs.lists.+write_from.Goals as goal
 use Rattle.listing.proofs.lists.+write_from.Goals.{After-write_from-bytes, At-loop-x, In-Some}
 
@@ -23,7 +23,7 @@ write_line_here-bytes-requires bound c =
 pub loop-x-init : goal.loop-x-init
 loop-x-init bound c =
     let arcs = c.arcs_of-x-items.ensures in
-    rw c.into_iter-x-iterator.ensures.into_iter_gives (record { table = arcs.table; row = arcs.row }, none_yet arcs.from)
+    rw c.into_iter-x-iterator.ensures.into_iter_gives (record { table = arcs.table; row = arcs.row }, none_yet arcs.from, refl)
 
 -- the row's own line is written before the loop, and in the loop the buffer is as long as it was
 first : (bound : ℕ) → (l : At-loop-x bound) →
@@ -60,7 +60,7 @@ write_from-bytes-requires bound c =
     let (tidy, used, deep, room) = c.requires in
     let place = (goal.at.write_from-bytes-requires bound c).In-Some in
     let a = one bound place in
-    rw (a.to, c.with-longer.ensures) (
+    rw (a.to, c.push.ensures, c.loop-x.invariant.2) (
       omega (arith, target_below args.t.now tidy args.r c.in-Some.x used a.inside, c.decreases),
       (
         tidy,
@@ -78,12 +78,12 @@ loop-x-preserved bound c =
     let called = c.write_from-bytes.ensures in
     let wrote : Wrote c.write_from-bytes.result (arc_lines args.t.now args.r args.word.now c.in-Some.x) (lent c.loop-x.bytes c.loop-x.out)
     c.write_from-bytes.new.out =
-    overlaid-wrote _ _ (rw (a.to, c.with-longer.ensures) at called.long, rw (a.to, c.with-longer.ensures) at called.buffer) in
-    (a.still, one_more c.loop-x.invariant.1 a wrote)
+    overlaid-wrote _ _ (rw (a.to, c.push.ensures, c.loop-x.invariant.2) at called.long, rw (a.to, c.push.ensures, c.loop-x.invariant.2) at called.buffer) in
+    (a.still, one_more c.loop-x.invariant.1 a wrote, rw (c.pop.ensures, called.word, c.push.ensures, c.loop-x.invariant.2) (popped _ _))
 
 pub returns : goal.returns
 returns bound c =
     let (tidy, used, deep, room) = c.requires in
-    let (arcs, so_far) = c.loop-x.invariant in
+    let (arcs, so_far, still) = c.loop-x.invariant in
     let all = all-written tidy used room (first bound (goal.at.returns bound c).At-loop-x) so_far (gone arcs c.in-None.ensures.steps) in
-    record { long = all.long; buffer = all.buffer }
+    record { word = still; long = all.long; buffer = all.buffer }
