@@ -12,7 +12,8 @@ use chains::{behind, last_of};
 use letters::LETTERS;
 use rows::{mark, target, targets};
 
-// The mark and the targets of a row in use that is looked for, with their key.
+// The mark and the targets of a row in use that is looked for, with their key. What is done for each row of a chain is
+// inlined: a call would have to lay this out in memory first.
 #[derive(Clone, Copy)]
 pub struct Wanted<'a> {
     pub mark: u16,
@@ -37,6 +38,7 @@ impl<'a> Wanted<'a> {
     }
 
     // Has the row this mark and these targets? All of them are compared, without a test for each: so many at once.
+    #[inline(always)]
     fn same_as(self, t: &[u16], r: usize) -> bool
         requires { r < row_count t.now }
         ensures { result ≡ has t.now r self.entry.mark self.entry.targets.now }
@@ -49,6 +51,7 @@ impl<'a> Wanted<'a> {
     }
 
     // Is it so of a row in use? Most rows that differ have another key.
+    #[inline(always)]
     fn is_at(self, t: &[u16], index: &[u16], r: usize) -> bool
         requires { Indexed t.now index.now × (in_use t.now r ≡ true) }
         ensures { result ≡ has t.now r self.entry.mark self.entry.targets.now }
@@ -61,6 +64,7 @@ impl<'a> Wanted<'a> {
 }
 
 // Of row n and those before it in its chain, one that agrees; or 0.
+#[inline(always)]
 fn find_from(t: &[u16], index: &[u16], n: usize, wanted: Wanted<'_>) -> usize
     requires { Indexed t.now index.now × (n < row_count t.now) × (0 < n → bucket t.now n ≡ bucket_of wanted.key) }
     ensures { Finds t.now n wanted.entry.mark wanted.entry.targets.now result }
