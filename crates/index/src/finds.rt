@@ -37,7 +37,8 @@ impl<'a> Wanted<'a> {
         }
     }
 
-    // Has the row this mark and these targets? All of them are compared, without a test for each: so many at once.
+    // Has the row this mark and these targets? All of them are compared, without a test for each: so many at once. With
+    // `==` on the slices, the worst combine takes more than twice as long.
     #[inline(always)]
     fn same_as(self, t: &[u16], r: usize) -> bool
         requires { r < row_count t.now }
