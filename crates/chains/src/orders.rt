@@ -34,7 +34,7 @@ pub fn order_rows(t: &[u16], order: &mut [u16])
     }
 }
 
-// The last row of a height, or 0.
+// The last row of a height, or 0: the array's own number, and so no Option.
 pub fn last_at(order: &[u16], h: usize) -> usize
     requires { (h ≤ longest) × (levels + most_rows ≤ length order.now) }
     ensures { result ≡ get_or order.now (suc h) 0 }
@@ -42,7 +42,7 @@ pub fn last_at(order: &[u16], h: usize) -> usize
     last_of(order, h + 1)
 }
 
-// The row before r of r's height, or 0.
+// The row before r of r's height, or 0, likewise.
 pub fn row_before(order: &[u16], r: usize) -> usize
     requires { (r < most_rows) × (levels + most_rows ≤ length order.now) }
     ensures { result ≡ get_or order.now (levels + r) 0 }

@@ -54,7 +54,7 @@ fn combine_lists(t: &mut [u16], index: &mut [u16], op: u32, a: usize, b: usize, 
 fn is_operation(op: u32) -> bool
     ensures { result ≡ is_operation op }
 {
-    (1 <= op) & (op <= 3)
+    (1..=3).contains(&op)
 }
 
 // The greatest of three mission numbers: if it is a mission's, all are.

@@ -1,5 +1,5 @@
 -- The keys stand behind the chains, so a key that is kept leaves the chains. Assumes nothing.
-use Prim.Native.Nat.{ℕ, suc, ◌≤◌, ◌<◌}
+use Prim.Native.Nat.{ℕ, suc, ◌<◌}
 use mathlib.Core.Path.{◌∙◌}
 use mathlib.Core.List.{List}
 use native.Mathlib.Decide.{ℕ_discrete}
@@ -47,7 +47,3 @@ keyed-more t r index k inside =
       };
       blank = λ i h. rw (get_or-set_other index (key_place r) i (row_key t r) 0 (λ e. omega arith)) (k.blank i h);
     }
-
-pub keyed-less : {t : Table} {n : ℕ} (m : ℕ) {index : List ℕ} → m ≤ n → Keyed t n index → Keyed t m index
-keyed-less m h k =
-    record { keys = record { long = k.keys.long; at = λ q d u. k.keys.at q (omega arith) u }; blank = k.blank }

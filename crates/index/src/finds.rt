@@ -64,7 +64,7 @@ impl<'a> Wanted<'a> {
     }
 }
 
-// Of row n and those before it in its chain, one that agrees; or 0.
+// Of row n and those before it in its chain, one that agrees; or 0, as `find` has it.
 #[inline(always)]
 fn find_from(t: &[u16], index: &[u16], n: usize, wanted: Wanted<'_>) -> usize
     requires { Indexed t.now index.now × (n < row_count t.now) × (0 < n → bucket t.now n ≡ bucket_of wanted.key) }

@@ -21,7 +21,7 @@ pub enum Kind {
 fn is_digit(b: u8) -> bool
     ensures { result ≡ is_digit b }
 {
-    (b'0' <= b) & (b <= b'9')
+    b.is_ascii_digit()
 }
 
 // Behind its first byte: "a space, two decimal digits for the mission".

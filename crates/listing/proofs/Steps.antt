@@ -15,23 +15,17 @@ use Rattle.letters.specs.Letters.{letters}
 use Rattle.letters.specs.LetterSet.{flag, sum_of}
 use Rattle.letters.proofs.LetterSet.{sum-agree, sum-none, sum-except, except, letter-le-sum, First, first-of-sum}
 use Rattle.sets.specs.Below.{total}
-use Rattle.sets.specs.Cut.{most_names}
 use Rattle.sets.proofs.Below.{total-skip}
-use Rattle.rows.specs.Table.{Table, row_count, start, target, ends}
+use Rattle.rows.specs.Table.{Table, row_count, target, ends}
 use Rattle.rows.specs.Walk.{has_arc}
-use Rattle.rows.specs.Words.{words, names}
+use Rattle.rows.specs.Words.{words}
 use Rattle.rows.specs.Tidy.{Used, Tidy}
 use Rattle.rows.proofs.Facts.{no_row}
 use Rattle.rows.proofs.Words.{words-none}
 use Rattle.counting.specs.Ahead.{ahead}
-use Rattle.counting.specs.Counts.{count_at, Counts, CountedRow, Counted}
+use Rattle.counting.specs.Counts.{count_at, CountedRow}
 use Rattle.counting.proofs.Ahead.{length-words, target-few, no-arc-words, count-exact, target-counted}
 use Rattle.listing.specs.Steps.{Listable, Leads}
-
--- the names of a mission are listed from its start
-pub start-listable : {t : Table} {counts : List ℕ} (m : ℕ) {r : ℕ} → Counts t counts × Counted t counts (start t m) → r ≡ start t m
-    → length (names t m) ≤ most_names → Listable t counts r
-start-listable m c e few = rw e (record { counted = c.0; row = c.1; few = few })
 
 -- the array has the number of words from a row
 pub listable-exact : {t : Table} {counts : List ℕ} {r : ℕ} → Listable t counts r → count_at counts r ≡ length (words t r)

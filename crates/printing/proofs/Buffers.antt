@@ -1,4 +1,4 @@
--- Bytes that are written to the front of a buffer. What a loop has written is said by two facts: the first bytes are these, and the others
+-- Bytes that are written to the front of a buffer. What has been written is said by two facts: the first bytes are these, and the others
 -- are those of before. A buffer that is lent from some byte on comes back with more written behind those. What is written one after another,
 -- byte by byte or part by part, is written as one. Assumes nothing.
 use Prim.Native.Nat.{ℕ, suc, ◌+◌, ◌-◌, ◌≤◌, ◌<◌}

@@ -13,7 +13,7 @@ ghost use Rattle.reaching.specs.Leads.{starts_at, OwesOne, Releases, ReachedWith
 
 use rows::{MISSIONS, arcs_of, start};
 
-// One more leads to row n. Number 0 stands for no row.
+// One more leads to row n. Number 0 stands for no row, as it does in the table, and so it is no Option.
 fn lead(leads: &mut [u16], n: usize)
     requires { (n < length leads.old) × (0 < n → get_or leads.old n 0 ≤ most_rows * letters + missions) }
     ensures { Adds (λ s. flag (eqb n s)) leads.old leads.new }

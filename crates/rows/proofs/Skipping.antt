@@ -1,5 +1,5 @@
 -- What eight zeros say of the numbers, how zeros add up, and what is kept past them. Assumes nothing.
-use Prim.Native.Nat.{ℕ, zero, suc, ◌+◌, ◌-◌, ◌*◌, ◌≤◌, ◌<◌}
+use Prim.Native.Nat.{ℕ, zero, suc, ◌+◌, ◌-◌, ◌≤◌, ◌<◌}
 use mathlib.Core.Path.{◌≡◌, refl, sym, ◌∙◌}
 use mathlib.Core.Bool.{Bool, true, false, ◌&&◌, and-eq-true_iff}
 use mathlib.Core.Logic.{◌⊎◌, inl, inr}
@@ -14,7 +14,7 @@ use lib.Seq.{get_or-take, get_or-drop}
 use Rattle.letters.specs.Letters.{letters}
 use Rattle.letters.proofs.Below.{all-below}
 use Rattle.sets.proofs.Membership.{fails}
-use Rattle.rows.specs.Table.{Table, width, target, row_targets}
+use Rattle.rows.specs.Table.{Table, target, row_targets}
 use Rattle.rows.specs.Skips.{eight_zeros, Zeros, Skipped, NextArc}
 
 -- the bits of both are none exactly if neither has any
@@ -47,9 +47,6 @@ module _ {s : List ℕ} where
         from = omega (arith, one.from, two.from);
         zeros = λ i h k. elim (lower-or-not i b) [ inl low ↦ one.zeros i h low | inr up ↦ two.zeros i up k ];
       }
-
-  pub zeros-one : (a : ℕ) → get_or s a 0 ≡ 0 → Zeros s a (a + 1)
-  zeros-one a e = record { from = omega arith; zeros = λ i h k. let same : i ≡ a = omega arith in rw same e }
 
   pub zeros-eight : (a : ℕ) → eight_zeros s a ≡ true → Zeros s a (a + 8)
   zeros-eight a e =

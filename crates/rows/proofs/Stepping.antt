@@ -1,6 +1,6 @@
 -- A loop over the arcs of a row, said of the row: what the next arc is, and that there are no more. Assumes nothing.
 use Prim.Native.Nat.{ℕ}
-use mathlib.Core.Path.{◌≡◌, refl, ◌∙◌}
+use mathlib.Core.Path.{◌∙◌}
 use Rattle.std.proofs.Common.{Some, None}
 use Rattle.letters.specs.Letters.{letters}
 use Rattle.rows.specs.Table.{Table}

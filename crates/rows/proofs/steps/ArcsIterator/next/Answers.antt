@@ -1,12 +1,11 @@
 -- `next` meets its promise: the places that are skipped are those of letters without a target. Assumes nothing.
-use Prim.Native.Nat.{◌≤◌, ◌<◌}
-use mathlib.Core.Path.{◌≡◌, refl, sym, ◌∙◌}
+use Prim.Native.Nat.{◌<◌}
+use mathlib.Core.Path.{◌≡◌, refl}
 use native.Mathlib.Omega.{arith}
 use native.Mathlib.Numerals.{add-one}
 use lib.ListN.{length, length-take, length-drop}
 use Rattle.letters.specs.Letters.{letters}
 use Rattle.rows.specs.Skips.{Skipped, NextArc}
-use Rattle.rows.specs.Arcs.{ArcFrom}
 use Rattle.rows.specs.declared.arcs.Arcs.{Arcs}
 use Rattle.rows.proofs.Skipping.{row_target, skipped-arc}
 use Rattle.rows.proofs.steps.ArcsIterator.next.Goals as goal
