@@ -10,7 +10,7 @@ use letters::letter_of;
 use merging::{Places, TwoLists};
 
 // The places of the next name, and its depth in the group: one more than the letters that it shares with
-// the group's; 0 where there is no next name.
+// the group's; 0 where there is no next name, and no Option, since it is compared with depths.
 #[derive(Clone, Copy)]
 pub struct Ahead {
     pub places: Places,

@@ -64,7 +64,8 @@ fn cut(n: u32) -> u16
 }
 
 // How many words there are from n, cut; counts n, and so every row that is reached from it. Each row
-// is counted once: a row in use has a word, so 0 says that it is not counted yet.
+// is counted once: a row in use has a word, so 0, of which the array is made, says that it is not counted yet. Not one
+// function with `size_from` of listing: what a row has of its own, the widths and the cut would be three closures.
 fn count_from(t: &[u16], n: usize, counts: &mut [u16]) -> u16
     requires { Counts t.now counts.old × Named t.now n }
     ensures counted { CountsMore t.now n counts.old counts.new }

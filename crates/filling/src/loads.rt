@@ -33,7 +33,8 @@ fn fill_lists(t: &mut [u16], index: &mut [u16], m: usize, lists: &TwoLists<'_>) 
     }
 }
 
-// On a sound book: refusal 8, and the rest.
+// On a sound book: refusal 8, and the rest. Not one function with `combine_lists`: what makes the row would be a closure,
+// and its promise, on a table and an index that it changes, would stand in each clause.
 fn load_lists(t: &mut [u16], index: &mut [u16], m: usize, lists: &TwoLists<'_>) -> Answer
     requires { Loadable t.old m lists.now.first.now lists.now.second.now × Indexed t.old index.old }
     ensures { Changes t.old t.new (load_two m lists.now.first.now lists.now.second.now) (answer_reply result) }

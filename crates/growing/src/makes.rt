@@ -22,8 +22,9 @@ pub fn end_mark(ends: bool) -> u16
     if ends { 2 } else { 1 }
 }
 
-// The row that was asked for, or 0 where it would have no words. A new row is made only where none in use
-// agrees. The index of the table is kept up.
+// The row that was asked for, or 0, the table's number for none, where it would have no words. A new row is made only
+// where none in use agrees. The index of the table is kept up; the two are no struct, since with two `&mut` each function
+// would have to say of both that they are still those that were lent.
 pub fn make(
     t: &mut [u16],
     index: &mut [u16],

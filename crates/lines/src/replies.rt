@@ -9,7 +9,7 @@ use calls::ask;
 use changing::{add, remove};
 use ranking::count;
 
-// Makes the call that is asked for.
+// Makes the call that is asked for. A match and no table of functions: the calls take and answer different things.
 pub fn call(t: &mut [u16], kind: Kind, m: u32, name: &[u8]) -> Reply
     ensures { Promised t.old t.new [] [] (call_of kind m name.now) result }
 {

@@ -39,10 +39,12 @@ pub struct Place {
     pub line: u32,
     // So many bytes of the buffer's front are to be written now.
     pub bytes: usize,
+    // A flag and no Option of the place: where it is over, bytes may still have to be written.
     pub over: bool,
 }
 
-// What there is to do: nothing, to say that the input is too long, to empty the table, to answer a line.
+// What there is to do: nothing, to say that the input is too long, to empty the table, to answer a line. It is matched
+// once, and each does something else with other arguments: no closures.
 #[derive(Clone, Copy)]
 enum Stage {
     Over,

@@ -7,7 +7,7 @@ pub struct Places {
     pub second: usize,
 }
 
-// Which list the next name of the two stands in.
+// Which list the next name of the two stands in. Whoever matches it does something else in each case: no closures.
 #[derive(Clone, Copy)]
 pub enum Turn {
     First,

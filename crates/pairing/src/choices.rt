@@ -17,7 +17,7 @@ pub fn chosen(op: u32, a: bool, b: bool) -> bool
     a & !b
 }
 
-// The row, or none.
+// The row, or 0, the table's own number for none.
 fn or_none(wanted: bool, r: u16) -> u16
     ensures { result ≡ or_none wanted r }
 {

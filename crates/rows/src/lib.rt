@@ -2,6 +2,8 @@
 // with a definition of specs/. The other crates of the rows layer (README, "How the crates lie") go by those
 // names and by the laws of proofs/; where in the slice a row stands only `growing` and `settling`, which write
 // rows, and `rules`, which asks whether a row is zeros, know besides. The calls look into no row.
+// No type says that a table is tidy: a ghost field holds a fact with one proof at most, and `Tidy` hands out a letter
+// with a target of each row with mark 1.
 #![tactic(auto)]
 
 mod arcs;

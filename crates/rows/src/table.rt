@@ -11,6 +11,7 @@ pub const WIDTH: usize = 40;
 // A table has 27 to 1,026 rows.
 const LEAST_ROWS: usize = 27;
 
+// Arrays by row have this length, and no Vec: a call works in fixed memory.
 pub const MOST_ROWS: usize = 1026;
 
 // The rows that are not room: the head, and the 25 for work during a call.
@@ -62,6 +63,7 @@ pub fn is_row(t: &[u16], n: usize) -> bool
 }
 
 // "number m, for m from 0 to 15, is the start row of mission m, or 0 if its list is empty".
+// A mission is a number and no type: it would be taken apart here at once, and all clauses speak of the number.
 pub fn start(t: &[u16], m: usize) -> u16
     requires { m < length t.now }
     ensures { result ≡ start t.now m }

@@ -20,7 +20,8 @@ fn rule7(t: &[u16]) -> bool
     used_rows(t) <= room(t)
 }
 
-// Builds the index of a sound book on the way, in an array of zeros.
+// Builds the index of a sound book on the way, in an array of zeros. A Boolean and no Option of the index: the clause
+// `says` is 01's test, and the array is the caller's.
 #[tactic(auto, unfolding(rows::specs::Rules::sound))]
 pub fn sound_indexed(t: &[u16], index: &mut [u16]) -> bool
     requires { index.old ≡ replicate index_length 0 }

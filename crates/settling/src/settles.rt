@@ -17,7 +17,8 @@ fn set_start(t: &mut [u16], m: usize, r: u16)
 }
 
 // The row's words become the list of the mission, if the lists then need no more states than there is
-// room. Whether or not, every row that is not reached is free after it.
+// room. Whether or not, every row that is not reached is free after it. A Boolean and no Result: the rows know no
+// refusals, and `settled` of ending says what it is worth.
 pub fn settle(t: &mut [u16], index: &[u16], m: usize, r: u16) -> bool
     requires { Tidy t.old × Indexed t.old index.now × (m < missions) × Startable t.old r × ReachedWith t.old r }
     ensures { Settles t.old t.new m r result }

@@ -19,7 +19,7 @@ struct Way {
     left: usize,
 }
 
-// Where a byte leads from a row: its letter's target, and 0 for a byte that is no letter.
+// Where a byte leads from a row: its letter's target, and 0, the table's own number for none, for a byte that is no letter.
 fn leads_to(t: &[u16], row: usize, b: u8) -> usize
     requires { is_row t.now row ≡ true }
     ensures { result ≡ leads_to t.now row b }
@@ -69,7 +69,7 @@ fn walk_list(t: &[u16], m: usize, word: &[u8]) -> Way
     walk_from(t, first, word)
 }
 
-// Where the walk of a word ends, a row or 0 for none, and "the arcs it followed".
+// Where the walk of a word ends, a row or, as in the table, 0 for none, and "the arcs it followed".
 #[derive(Clone, Copy)]
 pub struct Walked {
     pub row: usize,
@@ -78,7 +78,7 @@ pub struct Walked {
 
 // The walk of a word from a mission's start, or None where the bytes are no word: they are not as long as they may be,
 // or one of them is no letter. A byte that is no letter stops the walk, so that it is among those that are left; these
-// are looked through behind the walk.
+// are looked through behind the walk. Whether they are as long as they may be, names and prefixes know apart.
 pub fn walk_word(t: &[u16], m: usize, word: &[u8], long: bool) -> Option<Walked>
     requires { m < length t.now }
     ensures { result ≡ walked t.now m word.now long }
