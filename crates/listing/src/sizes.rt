@@ -21,7 +21,7 @@ fn cut_size(n: u32) -> u32
 // How many bytes the words from n have, each followed by 0x0A, cut; counts n, and so every row that is
 // reached from it. A word has one byte more than what is left of it behind its first letter, and the empty word
 // has its line end: so the bytes of a row are as many as its words, and the bytes of its targets. Each row is
-// counted once: a row in use has a word, so 0 says that it is not counted yet.
+// counted once: a row in use has a word, so 0, of which the array is made, says that it is not counted yet.
 fn size_from(t: &[u16], n: usize, counts: &[u16], sizes: &mut [u32]) -> u32
     requires { Counts t.now counts.now × Counted t.now counts.now n × Sizes t.now sizes.old }
     ensures counted { SizesMore t.now n sizes.old sizes.new }

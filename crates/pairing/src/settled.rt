@@ -1,5 +1,5 @@
-// The table of settled pairs. A number of it is one more than the row of the pair, or 0 where the pair
-// is not settled yet: "settled, no words" is 1.
+// The table of settled pairs. A number of it is one more than the row of the pair, or 0, of which the table is made,
+// where the pair is not settled yet: "settled, no words" is 1.
 ghost use Rattle.std.specs.Prelude.{◌<◌, ◌≡◌, length};
 ghost use Rattle.rows.specs.Table.{most_rows};
 ghost use Rattle.pairing.specs.Pairs.{Wide, entry, kept};
