@@ -1,5 +1,5 @@
--- What the calls share on their way to an outcome: the mission's list, the tests of the number of its names and of its bytes, and what
--- nth and write leave in the buffer. Assumes nothing.
+-- What the calls share on their way to an outcome: the mission's list, the test of the number of its bytes, and what nth and write leave in
+-- the buffer. Assumes nothing.
 use Prim.Native.Nat.{ℕ, suc, ◌≤◌, ◌<◌, min}
 use native.Mathlib.Omega.{arith}
 use mathlib.Core.Path.{◌≡◌}
@@ -10,7 +10,7 @@ use lib.ListN.{length}
 use borrow.Author.Tests.{lt-ltb, le-ltb}
 use Rattle.std.specs.Prelude.{Ok, Err}
 use Rattle.letters.specs.Names.{longest}
-use Rattle.sets.specs.Sets.{Words}
+use Rattle.letters.specs.Lists.{longest_list, lines}
 use Rattle.sets.proofs.Membership.{get_or-in, each_in}
 use Rattle.model.specs.Lists.{missions, list_of, nth_of}
 use Rattle.model.specs.Call.{Call, overlaid}
@@ -29,15 +29,15 @@ use Rattle.promises.specs.Promises.{outcome_of, Leaves, Promised}
 pub list-words : (t : Table) (m r : ℕ) → m < missions → r ≡ start t m → list_of (lists t) m ≡ words t r
 list-words t m r h e = rw e (list-names t m h)
 
--- "the list has over 60,000 names", or "over 65,535 bytes are needed", by the number of its names or bytes, cut
-module _ (size : Words → ℕ) (most : ℕ) (t : Table) (m k : ℕ) (h : m < missions) (e : k ≡ min (size (names t m)) (suc most)) where
-  pub list_over : most < k → ltb most (size (list_of (lists t) m)) ≡ true
-  list_over over = rw (list-names t m h) (lt-ltb most (size (names t m)) (omega arith))
+-- "over 65,535 bytes are needed", by the number of bytes of the mission's list, cut
+module _ (t : Table) (m k : ℕ) (h : m < missions) (e : k ≡ min (length (lines (names t m))) (suc longest_list)) where
+  pub list_over : longest_list < k → ltb longest_list (length (lines (list_of (lists t) m))) ≡ true
+  list_over over = rw (list-names t m h) (lt-ltb longest_list (length (lines (names t m))) (omega arith))
 
-  pub list-under : k ≤ most → ltb most (size (list_of (lists t) m)) ≡ false
-  list-under under = rw (list-names t m h) (le-ltb most (size (names t m)) (omega arith))
+  pub list-under : k ≤ longest_list → ltb longest_list (length (lines (list_of (lists t) m))) ≡ false
+  list-under under = rw (list-names t m h) (le-ltb longest_list (length (lines (names t m))) (omega arith))
 
-  pub list-exact : k ≤ most → k ≡ size (list_of (lists t) m)
+  pub list-exact : k ≤ longest_list → k ≡ length (lines (list_of (lists t) m))
   list-exact under = rw (list-names t m h) (omega arith)
 
 pub name-short : (t : Table) (r n : ℕ) → n < length (words t r) → length (nth_of n (words t r)) ≤ longest

@@ -7,9 +7,9 @@ ghost use Rattle.model.specs.Call.Call.{nth};
 ghost use Rattle.answers.specs.Replies.{answer_reply};
 ghost use Rattle.promises.specs.Promises.{Promised};
 
+use super::counts::counted;
 use admitting::{admit, if_fine};
 use answers::{Answer, Refusal};
-use counting::{MOST_NAMES, count_names};
 use letters::LONGEST;
 use listing::write_word;
 use rows::{MOST_ROWS, start};
@@ -20,10 +20,7 @@ fn nth_in_list(t: &[u16], m: usize, n: u32, out: &mut [u8]) -> Answer
     ensures { Promised t.now t.now out.old out.new (nth m n (length out.old)) (answer_reply result) }
 {
     let mut counts = [0u16; MOST_ROWS];
-    let names = count_names(t, m, &mut counts);
-    if MOST_NAMES < names {
-        return Err(Refusal::TooMany);
-    }
+    let names = counted(t, m, &mut counts)?;
     if names as u32 <= n {
         return Err(Refusal::NotUnder);
     }

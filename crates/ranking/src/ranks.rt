@@ -7,9 +7,10 @@ ghost use Rattle.rows.specs.Rules.{sound};
 ghost use Rattle.answers.specs.Replies.{answer_reply};
 ghost use Rattle.promises.specs.Promises.{reply_to, Promised};
 
+use super::counts::counted;
 use admitting::{admit, if_fine};
 use answers::{Answer, Refusal};
-use counting::{MOST_NAMES, count_names, rank_from};
+use counting::rank_from;
 use letters::is_name;
 use rows::{MOST_ROWS, start};
 
@@ -19,9 +20,7 @@ fn rank_in_list(t: &[u16], m: usize, name: &[u8]) -> Answer
     ensures { answer_reply result ≡ reply_to t.now (rank m name.now) }
 {
     let mut counts = [0u16; MOST_ROWS];
-    if MOST_NAMES < count_names(t, m, &mut counts) {
-        return Err(Refusal::TooMany);
-    }
+    counted(t, m, &mut counts)?;
     let r = start(t, m) as usize;
     Ok(rank_from(t, r, name, &counts))
 }

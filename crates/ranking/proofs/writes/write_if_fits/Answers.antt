@@ -6,8 +6,7 @@ use mathlib.Core.Path.{◌≡◌, refl}
 use mathlib.Core.List.{List}
 use borrow.Author.Tests.{lt-ltb, le-ltb}
 use lib.ListN.{length}
-use Rattle.letters.specs.Lists.{longest_list, lines}
-use Rattle.sets.specs.Sets.{Words}
+use Rattle.letters.specs.Lists.{lines}
 use Rattle.model.specs.Lists.{list_of}
 use Rattle.model.specs.Call.Call.{write}
 use Rattle.model.specs.Run.{run}
@@ -20,10 +19,6 @@ use Rattle.ranking.proofs.Outcomes.{list_over, list-under, list-exact, put_refus
 use Rattle.ranking.proofs.writes.write_if_fits.Goals as goal
 use Rattle.ranking.proofs.writes.write_if_fits.Goals.{Else-size-gt-LONGEST_LIST}
 
--- the number of bytes that a list needs
-abbrev needed : Words → ℕ
-needed l = length (lines l)
-
 pub list_size-size-requires : goal.list_size-size-requires
 list_size-size-requires c =
     let (s, h) = c.requires in
@@ -33,20 +28,20 @@ pub returns-then-size-gt-LONGEST_LIST : goal.returns-then-size-gt-LONGEST_LIST
 unfolding run
 returns-then-size-gt-LONGEST_LIST c =
     let (s, h) = c.requires in
-    let over = list_over needed longest_list c.args.t.now c.args.m _ h c.list_size-size.ensures (omega arith) in
+    let over = list_over c.args.t.now c.args.m _ h c.list_size-size.ensures (omega arith) in
     put_refused _ (write _ _) _ refl refusal.List (rw (sound-length _ s, mission-under _ h, s, over))
 
 -- the number of bytes is exact
 exact : (c : Else-size-gt-LONGEST_LIST) → let args = c.args in
     c.list_size-size.result ≡ length (lines (list_of (lists args.t.now) args.m))
 exact c =
-    list-exact needed longest_list c.args.t.now c.args.m _ c.requires.1 c.list_size-size.ensures (omega arith)
+    list-exact c.args.t.now c.args.m _ c.requires.1 c.list_size-size.ensures (omega arith)
 
 pub returns-then-out-size : goal.returns-then-out-size
 unfolding run
 returns-then-out-size c =
     let (s, h) = c.requires in
-    let under = list-under needed longest_list c.args.t.now c.args.m _ h c.list_size-size.ensures (omega arith) in
+    let under = list-under c.args.t.now c.args.m _ h c.list_size-size.ensures (omega arith) in
     let short = lt-ltb (length c.args.out.now) (length (lines (list_of (lists c.args.t.now) c.args.m))) (omega (arith, exact (goal.at.returns-then-out-size c).Else-size-gt-LONGEST_LIST)) in
     put_refused _ (write _ _) _ refl refusal.Buffer (rw (sound-length _ s, mission-under _ h, s, under, short))
 
@@ -61,7 +56,7 @@ returns c =
     let (s, h) = c.requires in
     let t = c.args.t.now in
     let bytes : List ℕ = lines (names t c.args.m) in
-    let under = list-under needed longest_list t c.args.m _ h c.list_size-size.ensures (omega arith) in
+    let under = list-under t c.args.m _ h c.list_size-size.ensures (omega arith) in
     let fits = le-ltb (length c.args.out.now) (length (lines (list_of (lists t) c.args.m))) (omega (arith, exact (goal.at.returns c).Else-size-gt-LONGEST_LIST)) in
     put-done _ (write _ _) _ refl _ _ (length bytes) bytes
     (rw (sound-length _ s, mission-under _ h, s, under, fits, list-names t c.args.m h))
