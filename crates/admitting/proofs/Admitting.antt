@@ -19,7 +19,7 @@ use Rattle.answers.specs.declared.cases.Refusal.{Refusal}
 use Rattle.answers.specs.Replies.{refusal_number}
 use Rattle.answers.proofs.Again.{refusal-positive}
 use Rattle.promises.specs.Books.{book_of}
-use Rattle.admitting.specs.Admissions.{Admission, if_fine, verdict, book_tests, first_tests}
+use Rattle.admitting.specs.Admissions.{Admission, if_fine, verdict, book_tests, walk_tests, first_tests}
 
 -- ---- arguments
 
@@ -50,6 +50,11 @@ pub record Admits (t : Table) (m : ℕ) (found : Admission) : Type 0 where
   pub arguments : found ≡ Ok tt
   pub sound : sound t ≡ true
 
+-- of those of a walk
+pub record Walks (t : Table) (m : ℕ) : Type 0 where
+  pub length : length_ok t ≡ true
+  pub mission : m < missions
+
 module _ (t : Table) where
   abbrev b : Book
   b = book_of t
@@ -58,6 +63,11 @@ module _ (t : Table) where
   book-admitted none =
       let (_, (sound, _)) = given-none (book_tests b) ((λ _. omega arith), ((λ _. omega arith), tt)) (sym none) in
       not-false _ sound
+
+  pub walk-admitted : (m : ℕ) → 0 ≡ given (walk_tests b m) → Walks t m
+  walk-admitted m none =
+      let (length, (mission, _)) = given-none (walk_tests b m) ((λ _. omega arith), ((λ _. omega arith), tt)) (sym none) in
+      record { length = not-false _ length; mission = omega (arith, ltb-false last_mission m mission) }
 
   pub admitted : (m : ℕ) (found : Admission) → 0 ≡ given (first_tests b m found) → Admits t m found
   admitted m found none =

@@ -12,4 +12,4 @@ mod keys;
 pub use builds::{INDEX, index_rows, keep_arcs, keep_key, take_arcs};
 pub use enters::{enter, free_row};
 pub use finds::{Wanted, find, has_twin};
-pub use keys::{key_from, mixed, mixed_mark};
+pub use keys::{key_from, key_of, mixed, mixed_mark};

@@ -24,9 +24,10 @@ fn write_line_here(t: &[u16], r: usize, word: &Prefix, out: &mut [u8]) -> usize
     if !ends(t, r) {
         return 0;
     }
-    let letters = word.bytes();
-    let depth = letters.len();
-    copy_front(letters, depth, out);
+    // An array of its own, which is seen not to overlap the buffer: so the library for C asks for no memmove.
+    let letters = word.letters();
+    let depth = word.bytes().len();
+    copy_front(&letters, depth, out);
     out[depth] = LINE_END;
     depth + 1
 }

@@ -56,4 +56,11 @@ impl Prefix {
     {
         &self.letters[..self.depth]
     }
+
+    // The bytes and whatever stands behind them, in an array of the caller's own.
+    pub fn letters(&self) -> [u8; LONGEST]
+        ensures { take (length self.now) result ≡ self.now }
+    {
+        self.letters
+    }
 }

@@ -16,8 +16,10 @@ impl<'a> TwoLists<'a> {
     {
         let i = at.first;
         let j = at.second;
+        // An arm of its own for a tie: so a wrong program that takes the second list there is refused for what it hands over.
         match self.whose_turn(at) {
-            Turn::First | Turn::Both => name_at(self.first, i),
+            Turn::First => name_at(self.first, i),
+            Turn::Both => name_at(self.first, i),
             Turn::Second => name_at(self.second, j),
             Turn::Neither => &self.first[0..0],
         }

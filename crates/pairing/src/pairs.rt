@@ -79,7 +79,9 @@ fn new_pair(
     settle_pair(t, index, seen, op, p, q, targets)
 }
 
-// The row of a pair. new_pair asks `known` itself: most pairs of targets are settled, and cost no call.
+// The row of a pair. new_pair asks `known` itself: most pairs of targets are settled, and cost no call. Not inlined: so the
+// two tables of pairs of combine_rows share their place on the stack.
+#[inline(never)]
 fn pair(
     t: &mut [u16],
     index: &mut [u16],

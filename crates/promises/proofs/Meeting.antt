@@ -59,6 +59,11 @@ pub promises : (t after : Table) (call : Call) (reply : Reply) → has_buffer ca
     → Promised t after [] [] call reply
 promises t after call reply none leaves answers = record { answers = answers; buffer = rw (unwritten t call none); table = leaves }
 
+-- it is refused
+pub promises-refused : (t : Table) (call : Call) (why : Refusal) → has_buffer call ≡ false → Leaves t t call
+    → outcome_of t call ≡ refused (refusal_number why) (book_of t) → Promised t t [] [] call (refused_reply why)
+promises-refused t call why none leaves e = promises t t call (refused_reply why) none leaves (sym (ap reply_of e))
+
 -- it is a change
 pub promises-change : (t after : Table) (call : Call) (reply : Reply) → has_buffer call ≡ false
     → (Becomes t after (run (book_of t) call) → Leaves t after call) → outcome_of t call ≡ run (book_of t) call → Changes t after call reply

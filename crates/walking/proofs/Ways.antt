@@ -1,22 +1,26 @@
 -- The walk over bytes. What it has walked are letters: so all bytes are letters if those that are left are, and then it is the walk of their
--- word. Assumes nothing.
+-- word. That is what is told of a word, or that there is none. Assumes nothing.
 use Prim.Native.Nat.{ℕ, suc, ◌-◌, ◌≤◌}
 use native.Mathlib.Omega.{arith}
 use mathlib.Core.Path.{◌≡◌, refl, sym, ◌∙◌, ap}
-use mathlib.Core.Bool.{Bool, true, ◌&&◌, false≢true, and-eq-true_iff}
+use mathlib.Core.Bool.{Bool, true, false, ◌&&◌, false≢true, and-eq-true_iff}
 use mathlib.Core.List.{List, [], ◌∷◌}
 use lib.Dec.{ltb}
 use lib.ListN.{length, take, drop, length-drop, length-map}
 use lib.Seq.{take_all}
+use Rattle.std.specs.Prelude.{Option, Some, None}
+use Rattle.std.proofs.lemmas.Option.{none-some, same_Some}
 use Rattle.letters.specs.Letters.{letters, letter}
 use Rattle.letters.specs.Words.{word_of}
 use Rattle.letters.specs.Names.{spelled}
 use Rattle.letters.proofs.Tests.{by-test}
-use Rattle.rows.specs.Table.{Table, is_row, target}
-use Rattle.rows.specs.Walk.{walk_from}
+use Rattle.sets.proofs.Membership.{fails}
+use Rattle.rows.specs.Table.{Table, is_row, start, target}
+use Rattle.rows.specs.Walk.{walk_from, followed as arcs_followed}
 use Rattle.rows.proofs.Walk.{walk_none, walk-empty, walk-on, walk-stops}
 use Rattle.walking.specs.declared.walk.Way.{Way}
-use Rattle.walking.specs.Ways.{leads_to, way, way_from}
+use Rattle.walking.specs.declared.walk.Walked.{Walked}
+use Rattle.walking.specs.Ways.{leads_to, way, way_from, walked}
 
 module _ (t : Table) where
   -- what leads to a row is a letter
@@ -90,3 +94,33 @@ way-ends t bytes n =
       row = λ fine. rw (walk_none t n out (word_of bytes));
       left = λ fine. rw (walk_none t n out (word_of bytes)) (sym (length-map bytes letter));
     }))
+
+-- ---- what is told of a word
+
+-- the walk of the word is this
+pub record WordEnds (t : Table) (m : ℕ) (bytes : List ℕ) (long : Bool) (row followed : ℕ) : Type 0 where
+  pub fine : (long && spelled bytes) ≡ true
+  pub at : row ≡ (walk_from t (word_of bytes) (start t m)).row
+  pub arcs : followed ≡ arcs_followed t (word_of bytes) (start t m)
+
+module _ (t : Table) (m : ℕ) (bytes : List ℕ) {told : Option Walked} {asked long : Bool} (walk : told ≡ walked t m bytes asked) (same : asked ≡ long) where
+  abbrev end : Walked
+  end = let w = word_of bytes in record { row = (walk_from t w (start t m)).row; followed = arcs_followed t w (start t m) }
+
+  said : told ≡ walked t m bytes long
+  said = rw same at walk
+
+  pub word-ends : (row followed : ℕ) → told ≡ Some (record { row = row; followed = followed }) → WordEnds t m bytes long row followed
+  word-ends row followed e =
+      by-test (long && spelled bytes)
+      (λ fine.
+      let this : end ≡ record { row = row; followed = followed } = same_Some _ _ (rw fine at (sym said ∙ e)) in
+      record { fine = fine; at = sym (ap (λ (w : Walked). w.row) this); arcs = sym (ap (λ (w : Walked). w.followed) this) })
+      (λ bad.
+      let this : ◌≡◌ {A = Option Walked} None (Some (record { row = row; followed = followed })) = rw bad at (sym said ∙ e) in
+      absurd (none-some _ this))
+
+  pub no_word : told ≡ None → (long && spelled bytes) ≡ false
+  no_word e =
+      fails (long && spelled bytes)
+      (λ fine. let this : Some end ≡ None = rw fine at (sym said ∙ e) in none-some _ (sym this))

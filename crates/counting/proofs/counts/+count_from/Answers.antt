@@ -1,6 +1,9 @@
+use Prim.Native.Nat.{suc}
 use native.Mathlib.Omega.{arith}
-use mathlib.Core.Path.{sym}
+use mathlib.Core.Path.{◌≡◌, sym}
+use Rattle.std.specs.Prelude.{min}
 use Rattle.letters.proofs.LetterSet.{flag-le}
+use Rattle.sets.specs.Cut.{most_names}
 use Rattle.rows.specs.Table.{ends}
 use Rattle.rows.proofs.Stepping.{goes, gone}
 use Rattle.counting.proofs.Filling.{word-sums, none_yet, one_more, sum-small, sum_number, row-numbered}
@@ -40,5 +43,5 @@ returns bound c =
     let none = gone arcs c.in-None.ensures.steps in
     let row = c.requires.1 (omega arith) in
     let law = word-sums _ so_far.counts.tidy in
-    let cut = c.cut-all.ensures in
+    let cut : c.cut-all.result ≡ min c.loop-s.sum (suc most_names) = omega (arith, c.cut-all.ensures) in
     record { counted = row-numbered law so_far row none cut; number = sum_number law so_far row none cut }

@@ -22,18 +22,18 @@ all-copied t n copy long same =
 pub copy_from_slice-requires : goal.copy_from_slice-requires
 copy_from_slice-requires c =
     let args = c.args in
-    let inside = (row_inside args.t.now args.n (sym c.is_row.ensures ∙ c.if-is_row.true)).1 in
+    let inside = (row_inside args.t.now args.n (sym c.is_row.ensures ∙ c.if-not-is_row.false)).1 in
     rw c.targets.ensures (simp (length-take, length-drop) (omega arith))
 
-pub returns-then-is_row : goal.returns-then-is_row
-returns-then-is_row c =
+pub returns : goal.returns
+returns c =
     let args = c.args in
-    let row = sym c.is_row.ensures ∙ c.if-is_row.true in
+    let row = sym c.is_row.ensures ∙ c.if-not-is_row.false in
     let copied = c.copy_from_slice.ensures.after ∙ c.targets.ensures in
     all-copied args.t.now args.n _ c.copy_from_slice.ensures.len (λ x h. rw (copied, row) (row_target args.t.now args.n x h))
 
-pub returns-else-is_row : goal.returns-else-is_row
-returns-else-is_row c =
-    let none = sym c.is_row.ensures ∙ c.if-is_row.false in
+pub returns-then-not-is_row : goal.returns-then-not-is_row
+returns-then-not-is_row c =
+    let none = sym c.is_row.ensures ∙ c.if-not-is_row.true in
     let args = c.args in
     all-copied args.t.now args.n (replicate letters 0) refl (λ x h. rw (none, get_or-replicate {A = ℕ} letters x 0 0 h))

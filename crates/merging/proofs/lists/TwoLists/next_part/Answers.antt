@@ -2,17 +2,19 @@
 -- Assumes nothing.
 use native.Mathlib.Nat.{le_of_lt}
 use mathlib.Core.Path.{sym, ◌∙◌}
-use mathlib.Core.Logic.{inl, inr}
 use Rattle.merging.specs.declared.places.Turn.TheVariants.{First, Second, Both}
 use Rattle.merging.proofs.Turns.{left_by}
 use Rattle.merging.proofs.lists.TwoLists.next_part.Goals as goal
 
 pub returns-in-First : goal.returns-in-First
 returns-in-First c =
-    elim c.in-First.is [
-      | inl e ↦ let turn = sym c.whose_turn.ensures ∙ e in rw turn (c.name_at.ensures.part (le_of_lt (left_by _ _ _ First turn).0))
-      | inr e ↦ let turn = sym c.whose_turn.ensures ∙ e in rw turn (c.name_at.ensures.part (le_of_lt (left_by _ _ _ Both turn).0))
-    ]
+    let turn = sym c.whose_turn.ensures ∙ c.in-First.is in
+    rw turn (c.name_at.ensures.part (le_of_lt (left_by _ _ _ First turn).0))
+
+pub returns-in-Both : goal.returns-in-Both
+returns-in-Both c =
+    let turn = sym c.whose_turn.ensures ∙ c.in-Both.is in
+    rw turn (c.name_at-in-Both.ensures.part (le_of_lt (left_by _ _ _ Both turn).0))
 
 pub returns-in-Second : goal.returns-in-Second
 returns-in-Second c =

@@ -1,0 +1,2 @@
+-- What ask and next share. Assumes nothing.
+mod Walking
