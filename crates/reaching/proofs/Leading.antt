@@ -162,7 +162,7 @@ rest t n x debt s = debt s + (arcs_from t n letters s - arcs_from t n (suc x) s)
 module _ {t : Table} {n x : ℕ} {leads : List ℕ} {debt : ℕ → ℕ} where
   -- the arc of the next letter is to be taken off
   pub paid-owes : Paid t n x leads debt → x < letters
-      → Owes t leads (λ s. rest t n x debt s + flag (eqb (target t n x) s))
+      → Owes t leads (λ s. debt s + (arcs_from t n letters s - arcs_from t n (suc x) s) + flag (eqb (target t n x) s))
   paid-owes p h =
       record {
         long = p.long;
