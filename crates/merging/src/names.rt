@@ -16,7 +16,7 @@ impl<'a> TwoLists<'a> {
     {
         let i = at.first;
         let j = at.second;
-        // An arm of its own for a tie: so a wrong program that takes the second list there is refused for what it hands over.
+        // A tie has an arm of its own: so a program that takes the second list there is refused for what it hands over.
         match self.whose_turn(at) {
             Turn::First => name_at(self.first, i),
             Turn::Both => name_at(self.first, i),
